@@ -1,0 +1,12 @@
+pub mod Bytes
+pub mod Passage
+pub mod Tags
+pub mod Following
+pub mod Whole
+pub mod Prefixes
+pub mod Comparing
+pub mod Unique
+pub mod Fronts
+pub mod Deciding
+pub mod Total
+pub mod Example

@@ -1,0 +1,9 @@
+pub mod Told
+pub mod Format
+pub mod Bounds
+pub mod Faults
+pub mod Reading
+pub mod Outcome
+pub mod Theorems
+pub mod Passing
+pub mod Parts

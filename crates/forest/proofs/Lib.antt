@@ -1,0 +1,3 @@
+pub mod Overlaid
+pub mod EvenlyPlanted
+pub mod OnePlanting

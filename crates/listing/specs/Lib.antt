@@ -1,0 +1,4 @@
+pub mod Told
+pub mod Text
+pub mod Wanting
+pub mod Answering

@@ -1,0 +1,5 @@
+pub mod Faults
+pub mod Joints
+pub mod Checking
+pub mod Crossing
+pub mod Samples

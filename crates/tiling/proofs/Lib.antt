@@ -1,0 +1,4 @@
+pub mod Numbers
+pub mod Holding
+pub mod Chains
+pub mod Filling

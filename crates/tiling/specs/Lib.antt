@@ -1,0 +1,3 @@
+pub mod Cells
+pub mod Positions
+pub mod Theorems
