@@ -1,8 +1,7 @@
 -- Planting has one answer: its checks exclude each other, and the mesh has one verdict.
 use mathlib.Core.Path.{_≡_, refl, sym, ap, _∙_}
-use mathlib.Core.Logic.{_⊎_}
 use mathlib.Core.List.{List}
-use Prim.Native.Nat.{ℕ, _*_, _^_, _≤_, _<_}
+use Prim.Native.Nat.{ℕ, _*_, _^_, _≤_}
 use native.Mathlib.Omega.{arith}
 use Rattle.std.specs.declared.result.Result.{Result}
 use Rattle.std.specs.declared.result.Result.the-variants.{Ok, Err}
@@ -14,7 +13,7 @@ use Rattle.mesh.proofs.Verdicts.{one-verdict}
 use Rattle.forest.specs.declared.forest.Forest.{Forest}
 use Rattle.forest.specs.declared.fault.PlantFault.{PlantFault}
 use Rattle.forest.specs.declared.fault.PlantFault.the-variants.{Mesh, TooDeep, NoRoom}
-use Rattle.forest.specs.Planting.{leaves, Sound, Stopped, Answers, Grown, Dead, One-planting}
+use Rattle.forest.specs.Planting.{Sound, Stopped, Grown, Dead, One-planting}
 
 module _ (m : Model) (roots : ℕ) (js : List Joint) (l cap : ℕ) where
   -- a sound mesh has no fault

@@ -1,9 +1,9 @@
 -- A front that is written over a list, and then the part behind it.
-use mathlib.Core.Path.{_≡_, refl, sym, ap, _∙_}
+use mathlib.Core.Path.{_≡_, _∙_}
 use mathlib.Core.List.{List, _++_}
-use Prim.Native.Nat.{ℕ, _+_, _-_, _≤_, min}
+use Prim.Native.Nat.{ℕ, _+_, _-_, _≤_}
 use native.Mathlib.Omega.{arith}
-use borrow.Rule.Slice.PartMut.{putMid, postOf}
+use borrow.Rule.Slice.PartMut.{putMid}
 use lib.ListN.{length, take, drop, length-take, length-drop, length-append}
 use Rattle.std.proofs.shelf.Parts.{take-putMid-below, drop-putMid, between-putMid, drop-append-drop}
 use Rattle.std.proofs.shelf.Lists.{take-at}

@@ -1,12 +1,12 @@
 -- The bytes of a description determine what is printed, want of memory aside.
 use mathlib.Core.Path.{_≡_, refl, sym, ap, _∙_, subst}
-use mathlib.Core.Logic.{_⊎_, inl, inr}
+use mathlib.Core.Logic.{inl, inr}
 use mathlib.Core.List.{List, [], _∷_, _++_}
-use Prim.Native.Nat.{ℕ, _*_, _^_, _≤_}
+use Prim.Native.Nat.{ℕ}
 use native.Mathlib.Omega.{arith}
 use lib.ListN.{length}
 use lib.Chars.{codes}
-use Rattle.scheme.specs.Scheme.{Model, k}
+use Rattle.scheme.specs.Scheme.{Model}
 use Rattle.tiling.specs.declared.leaf.Leaf.{Leaf}
 use Rattle.tiling.specs.Positions.{evenly}
 use Rattle.description.specs.declared.shape.Shape.{Shape}
@@ -18,9 +18,8 @@ use Rattle.description.specs.Reading.{Reads, granted, refused}
 use Rattle.description.specs.Told as reader
 use Rattle.description.proofs.Unique.{one-reading}
 use Rattle.forest.specs.declared.fault.PlantFault.{PlantFault}
-use Rattle.forest.specs.Planting.{leaves, Sound, Stopped, Grown}
+use Rattle.forest.specs.Planting.{leaves, Stopped}
 use Rattle.forest.proofs.OnePlanting.{not-both, one-stop}
-use Rattle.listing.specs.declared.fault.Fault.{Fault}
 use Rattle.listing.specs.declared.fault.Fault.the-variants.{Reader, Planting, NoMemory}
 use Rattle.listing.specs.declared.listing.Listing.{Listing}
 use Rattle.listing.specs.declared.answer.NotYet.the-variants.{Shaped, Stepped}

@@ -1,6 +1,6 @@
 -- The text of a listing and of a fault.
 use mathlib.Core.List.{List, [], _∷_, _++_}
-use Prim.Native.Nat.{ℕ, zero, suc}
+use Prim.Native.Nat.{ℕ, suc}
 use lib.ListN.{length}
 use lib.Chars.{codes}
 use Rattle.std.specs.Written.{decimal}

@@ -1,9 +1,8 @@
 ghost use mathlib.Core.Path.{_≡_};
 ghost use mathlib.Core.List.{_++_};
-ghost use lib.ListN.{length};
 ghost use Rattle.std.specs.Of.String.{string-bytes};
 ghost use Rattle.std.specs.Vec.{made};
-ghost use Rattle.listing.specs.Text.{shape-word, layer-word, leaf-line, leaf-lines, forest-line, fault-line, listing-text};
+ghost use Rattle.listing.specs.Text.{shape-word, layer-word, leaf-line, leaf-lines, fault-line, listing-text};
 use crate::fault::Fault;
 use crate::fault::Layer;
 use crate::listing::Listing;

@@ -1,8 +1,8 @@
 -- A depth limit over a lawful scheme is lawful.
-use mathlib.Core.Path.{_≡_, refl, sym, _∙_, ap, subst}
-use mathlib.Core.Logic.{_⊎_, inl, inr}
-use mathlib.Core.Bool.{Bool, true, false, cond, _&&_}
-use Prim.Native.Nat.{ℕ, zero, suc, min, _+_, _-_, _*_, _/_, _%_, _^_, _≤_, _<_}
+use mathlib.Core.Path.{_≡_, refl, _∙_}
+use mathlib.Core.Logic.{inl, inr}
+use mathlib.Core.Bool.{Bool, true, false}
+use Prim.Native.Nat.{ℕ, suc, _+_, _-_, _*_, _/_, _^_, _≤_, _<_}
 use native.Mathlib.Omega.{arith}
 use native.Mathlib.Nat.{mul-le-mul-left, min-le-left}
 use lib.Dec.{leb, ltb}
@@ -13,7 +13,7 @@ use Rattle.std.specs.Options.{isSome}
 use Rattle.scheme.specs.declared.crossing.Crossing.{Crossing}
 use Rattle.scheme.specs.declared.crossing.Crossing.the-variants.{Inside, Edge}
 use Rattle.scheme.specs.Limiting.{given, limited}
-use Rattle.scheme.specs.Scheme.{Model, k, h, Belongs, Lawful, Bounded, CellIn, EdgeIn, CrossedIn, FaceIn}
+use Rattle.scheme.specs.Scheme.{Model, k, h, Belongs, Lawful, Bounded, CrossedIn, FaceIn}
 
 given-some : {A : Type 0} (b : Bool) (o : Option A) (x : A) → given b o ≡ Some x → (b ≡ true) × (o ≡ Some x)
 given-some true o x e = (refl, e)

@@ -1,10 +1,9 @@
 -- A depth limit over a flat scheme is flat: within the limit its plan is the one below, past it all corners are (0, 0).
-use mathlib.Core.Path.{_≡_, refl, sym, _∙_, ap, subst}
+use mathlib.Core.Path.{_≡_, sym, _∙_, ap, subst}
 use mathlib.Core.Logic.{inl, inr}
-use mathlib.Core.Bool.{Bool, true, false, cond}
+use mathlib.Core.Bool.{Bool, cond}
 use Prim.Native.Nat.{ℕ, suc, min, _+_, _-_, _*_, _^_, _≤_, _<_}
 use native.Mathlib.Omega.{arith}
-use lib.Dec.{leb}
 use Rattle.std.proofs.shelf.Tests.{le-leb, lt-leb, cases-lt}
 use Rattle.scheme.specs.Scheme.{Model}
 use Rattle.scheme.specs.Plan.{Plan, Nested, Agrees, Flat, OnPlan, InBox}

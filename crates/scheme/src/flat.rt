@@ -1,5 +1,5 @@
 ghost use mathlib.Core.Path.{_≡_};
-ghost use Prim.Native.Nat.{ℕ, _≤_};
+ghost use Prim.Native.Nat.{_≤_};
 ghost use Rattle.scheme.specs.Plan.{Plan, Nested, Agrees, outline-of, Flat as FlatModel};
 use crate::scheme::Scheme;
 

@@ -1,4 +1,3 @@
-ghost use mathlib.Core.Path.{_≡_};
 ghost use Rattle.scheme.specs.Limiting.{limited, limited-plan};
 use crate::crossing::Crossing;
 use crate::flat::Flat;

@@ -1,21 +1,17 @@
 -- The line keeps the bounds and the six laws, at every depth.
-use mathlib.Core.Path.{_≡_, refl, sym, _∙_, ap, subst}
+use mathlib.Core.Path.{_≡_, refl, sym, _∙_, ap}
 use mathlib.Core.Logic.{_⊎_, inl, inr}
-use mathlib.Core.Bool.{Bool, true, false, cond, _&&_}
-use Prim.Native.Nat.{ℕ, zero, suc, _+_, _-_, _*_, _/_, _%_, _^_, _≤_, _<_}
+use Prim.Native.Nat.{ℕ, zero, suc, _+_, _-_, _*_, _^_, _≤_, _<_}
 use native.Mathlib.Omega.{arith}
-use lib.Dec.{leb, ltb, eqb}
 use lib.Pow.{pow-pos}
 use native.Mathlib.Nat.{pow-suc}
 use native.Mathlib.Decide.{ℕ-discrete}
 use Rattle.std.proofs.shelf.Ways.{tells}
 use Rattle.std.specs.declared.option.Option.{Option}
-use Rattle.std.specs.declared.option.Option.the-variants.{Some, None}
-use Rattle.std.specs.Options.{isSome}
-use Rattle.scheme.specs.declared.crossing.Crossing.{Crossing}
+use Rattle.std.specs.declared.option.Option.the-variants.{Some}
 use Rattle.scheme.specs.declared.crossing.Crossing.the-variants.{Inside, Edge}
-use Rattle.shapes.specs.Segment.{line-across, line-at-edge, line-face-child, line}
-use Rattle.scheme.specs.Scheme.{Model, k, h, Belongs, Lawful, Bounded, CellIn, EdgeIn, CrossedIn, FaceIn}
+use Rattle.shapes.specs.Segment.{line-across, line-at-edge, line-face-child, line, All-edges-break-the-laws}
+use Rattle.scheme.specs.Scheme.{Belongs, Lawful, Bounded}
 
 one-pow : (l : ℕ) → 1 ^ l ≡ 1
 one-pow zero = refl
@@ -109,3 +105,13 @@ module _ (D : ℕ) (deep : D ≤ 18) where
     undo = λ s l n n′ e. grind (arith, tells);
     turn-down = λ s l n n′ e. grind (arith, tells);
   }
+
+-- two cells of level 1 would lie at one edge number
+pub all-edges-break-the-laws : All-edges-break-the-laws
+all-edges-break-the-laws at ok =
+    let first : at 1 1 0 ≡ Some (0, 1) = ok .edge-to 1 0 1 1 0 refl in
+    let second : at 1 1 0 ≡ Some (1, 1) = ok .edge-to 1 1 1 1 0 refl in
+    let same : _≡_ {A = Option (ℕ × ℕ)} (Some (0, 1)) (Some (1, 1)) = sym first ∙ second in
+    let pair : _≡_ {A = ℕ × ℕ} (0, 1) (1, 1) = cc same in
+    let z : _≡_ {A = ℕ} 0 1 = ap (λ (x : ℕ × ℕ). x .0) pair in
+    omega arith

@@ -1,14 +1,11 @@
 -- The line on the plan: corners shared across a face, and a child inside its parent's rectangle.
 use mathlib.Core.Path.{_≡_, refl, sym, _∙_}
-use mathlib.Core.Logic.{_⊎_, inl, inr}
-use mathlib.Core.Bool.{cond, _&&_}
-use Prim.Native.Nat.{ℕ, zero, suc, _+_, _-_, _*_, _^_, _≤_, _<_}
+use Prim.Native.Nat.{ℕ, suc, _+_, _-_, _*_, _^_, _≤_, _<_}
 use native.Mathlib.Omega.{arith}
 use native.Mathlib.Nat.{pow-suc, mul-le-mul-right}
-use lib.Dec.{leb, ltb, eqb}
 use Rattle.std.proofs.shelf.Ways.{tells}
 use Rattle.std.specs.declared.option.Option.the-variants.{Some}
-use Rattle.scheme.specs.declared.crossing.Crossing.the-variants.{Inside, Edge}
+use Rattle.scheme.specs.declared.crossing.Crossing.the-variants.{Inside}
 use Rattle.scheme.specs.Plan.{side, InBox, Nested, Agrees, Flat, OnPlan}
 use Rattle.shapes.specs.Segment.{line, line-across, line-face-child, line-corner, line-plan}
 use Rattle.shapes.proofs.OnPlan.{between-corners, side-half, two-sides}

@@ -1,13 +1,13 @@
 -- The line: w 1, F 2, the cell at place p is the stretch from p to p + 1; face 0 is its lower end, face 1 its upper end.
 use mathlib.Core.Path.{_≡_}
 use mathlib.Core.Bool.{cond, _&&_}
-use Prim.Native.Nat.{ℕ, suc, _+_, _-_, _*_, _^_, _≤_}
+use Prim.Native.Nat.{ℕ, suc, _+_, _-_, _*_, _^_}
 use lib.Dec.{leb, ltb, eqb}
 use Rattle.std.specs.declared.option.Option.{Option}
 use Rattle.std.specs.declared.option.Option.the-variants.{Some, None}
 use Rattle.scheme.specs.declared.crossing.Crossing.{Crossing}
 use Rattle.scheme.specs.declared.crossing.Crossing.the-variants.{Inside, Edge}
-use Rattle.scheme.specs.Scheme.{Model}
+use Rattle.scheme.specs.Scheme.{Model, Lawful}
 use Rattle.scheme.specs.Plan.{Plan, side}
 
 abbrev pub line-across : ℕ → ℕ → ℕ → ℕ → Option Crossing
@@ -57,3 +57,20 @@ Line-face-child-keeps = (l p f i a : ℕ) → line-face-child 18 l p f 0 ≡ Som
 abbrev pub Line-examples : Type 0
 Line-examples = (line-across 18 2 1 1 ≡ Some (Inside (2, 0))) × (line-across 18 2 3 1 ≡ Some (Edge 1 0)) × (line-across 18 2 4 0 ≡ None) ×
     (line-at-edge 18 2 1 0 ≡ Some (3, 1)) × (line-face-child 18 2 3 1 0 ≡ Some (1, 1)) × (line-corner 18 2 3 1 ≡ (262144, 0))
+
+-- the line, were every face of every cell an edge of the root, whatever lay at the edges
+abbrev pub all-edges : (ℕ → ℕ → ℕ → Option (ℕ × ℕ)) → Model
+all-edges at = record {
+  w = 1;
+  F = 2;
+  D = 18;
+  across = λ l p f. cond (leb l 18 && (ltb p (2 ^ l) && ltb f 2)) (Some (Edge f 0)) None;
+  atEdge = at;
+  faceChild = line-face-child 18;
+  sort = λ g. cond (ltb g 2) (Some 0) None;
+  turned = λ s l n. cond (eqb s 0 && (leb l 18 && ltb n 1)) (Some n) None;
+}
+
+-- the laws tell it from a scheme
+abbrev pub All-edges-break-the-laws : Type 0
+All-edges-break-the-laws = (at : ℕ → ℕ → ℕ → Option (ℕ × ℕ)) → Lawful (all-edges at) → ⊥

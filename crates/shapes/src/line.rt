@@ -1,7 +1,5 @@
 ghost use mathlib.Core.Path.{_≡_};
-ghost use Prim.Native.Nat.{ℕ};
-ghost use lib.ListN.{length};
-ghost use Rattle.shapes.specs.Segment.{line as lineModel, line-plan, line-corner, Line-shares, Line-face-child-keeps, Line-examples};
+ghost use Rattle.shapes.specs.Segment.{line as lineModel, line-plan, line-corner, Line-shares, Line-face-child-keeps, Line-examples, All-edges-break-the-laws};
 ghost use mathlib.Core.List.{_∷_, []};
 use crate::ticks::DEPTH;
 use crate::ticks::ticks;
@@ -25,6 +23,7 @@ impl Line {
         ensures shares { λ _. ⌜ Line-shares ⌝ }
         ensures keeps { λ _. ⌜ Line-face-child-keeps ⌝ }
         ensures examples { λ _. ⌜ Line-examples ⌝ }
+        ensures counterexample { λ _. ⌜ All-edges-break-the-laws ⌝ }
     {
         Line
     }

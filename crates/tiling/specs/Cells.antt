@@ -1,7 +1,7 @@
 -- Leaves, the finest places that they hold, and the order along the curve.
 use mathlib.Core.Path.{_≡_}
 use mathlib.Core.Logic.{_⊎_}
-use mathlib.Core.List.{List, [], _∷_}
+use mathlib.Core.List.{List}
 use Prim.Native.Nat.{ℕ, _+_, _-_, _*_, _/_, _^_, _≤_, _<_}
 use lib.ListN.{length, getD}
 use Rattle.tiling.specs.declared.leaf.Leaf.{Leaf}

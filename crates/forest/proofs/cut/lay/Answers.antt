@@ -1,8 +1,8 @@
-use mathlib.Core.Path.{_≡_, ap, _∙_, refl, sym}
-use mathlib.Core.List.{List, _++_, map}
-use Prim.Native.Nat.{_-_, _+_, _≤_}
+use mathlib.Core.Path.{_≡_, ap, _∙_, sym}
+use mathlib.Core.List.{map}
+use Prim.Native.Nat.{_-_, _≤_}
 use native.Mathlib.Omega.{arith}
-use lib.ListN.{length, take, drop, replicate, length-take}
+use lib.ListN.{length, replicate}
 use Rattle.std.specs.Iters.{counting}
 use Rattle.tiling.specs.Cells.{blank}
 use Rattle.tiling.specs.Positions.{even}
