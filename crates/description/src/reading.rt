@@ -1,3 +1,6 @@
+ghost use mathlib.Core.Path.{_≡_};
+ghost use lib.Dec.{ltb};
+ghost use lib.ListN.{length};
 ghost use Rattle.std.specs.Vec.{made};
 ghost use Rattle.description.specs.Outcome.{Answered, Bounded};
 ghost use Rattle.description.specs.Theorems.{One-reading, Some-reading, Two-lines-encoded};
@@ -9,6 +12,13 @@ use std::alloc::Global;
 
 const LONGEST: usize = 8192;
 
+/// Is the input longer than a description may be?
+fn is_too_long(bytes: &[u8]) -> bool
+    ensures { λ r. ⌜ r ≡ ltb 8192 (length (now (bytes .entry))) ⌝ }
+{
+    bytes.len() > LONGEST
+}
+
 /// Reads the whole input: the description that it encodes, or the first fault in it.
 pub fn read(heap: Global, bytes: &[u8]) -> Result<Description, Refusal>
     ensures answered { λ r. ⌜ Answered (now (bytes .entry)) r ⌝ }
@@ -17,7 +27,7 @@ pub fn read(heap: Global, bytes: &[u8]) -> Result<Description, Refusal>
     ensures some { λ _. ⌜ Some-reading ⌝ }
     ensures example { λ _. ⌜ Two-lines-encoded ⌝ }
 {
-    if bytes.len() > LONGEST {
+    if is_too_long(bytes) {
         return Err(Refusal::TooLong);
     }
     let mut reader = Reader::new(bytes);
