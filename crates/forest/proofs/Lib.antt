@@ -1,3 +1,4 @@
+pub mod Digits
 pub mod Overlaid
 pub mod EvenlyPlanted
 pub mod OnePlanting

@@ -6,7 +6,6 @@ ghost use Rattle.tiling.specs.Cells.{Tiles};
 ghost use Rattle.forest.specs.Signs.{Signs};
 ghost use Rattle.forest.specs.Planting.{leaves as leavesOf};
 use crate::forest::Forest;
-use crate::signature::Signature;
 use mesh::Mesh;
 use tiling::Leaf;
 
@@ -52,12 +51,5 @@ impl Forest {
         ensures { λ r. ⌜ r ≡ now (self .entry) .level ⌝ }
     {
         self.level
-    }
-
-    /// What it keeps of its scheme.
-    pub fn signature(&self) -> Signature
-        ensures { λ r. ⌜ r ≡ now (self .entry) .signature ⌝ }
-    {
-        self.signature
     }
 }

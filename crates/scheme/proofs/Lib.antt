@@ -1,2 +1,3 @@
+pub mod Alike
 pub mod Limited
 pub mod LimitedPlan

@@ -8,12 +8,12 @@ use native.Mathlib.Nat.{mul-le-mul-left, min-le-left}
 use lib.Dec.{leb, ltb}
 use Rattle.std.proofs.shelf.Tests.{ltb-true, leb-true, lt-ltb, le-leb}
 use Rattle.std.specs.declared.option.Option.{Option}
-use Rattle.std.specs.declared.option.Option.the-variants.{Some, None}
+use Rattle.std.specs.declared.option.Option.the-variants.{Some}
 use Rattle.std.specs.Options.{isSome}
-use Rattle.scheme.specs.declared.crossing.Crossing.{Crossing}
 use Rattle.scheme.specs.declared.crossing.Crossing.the-variants.{Inside, Edge}
+use Rattle.scheme.proofs.Alike.{crossed-alike, face-alike}
 use Rattle.scheme.specs.Limiting.{given, limited}
-use Rattle.scheme.specs.Scheme.{Model, k, h, Belongs, Lawful, Bounded, CrossedIn, FaceIn}
+use Rattle.scheme.specs.Scheme.{Model, k, h, Belongs, Lawful, Bounded}
 
 given-some : {A : Type 0} (b : Bool) (o : Option A) (x : A) → given b o ≡ Some x → (b ≡ true) × (o ≡ Some x)
 given-some true o x e = (refl, e)
@@ -27,15 +27,6 @@ some-given : {A : Type 0} (b : Bool) (o : Option A) (x : A) → b ≡ true → o
 some-given b o x t e = rw (t, e)
 
 module _ (m : Model) (d : ℕ) where
-  crossed-limited : (l : ℕ) (o : Option Crossing) → CrossedIn m l o → CrossedIn (limited d m) l o
-  crossed-limited l None x = x
-  crossed-limited l (Some (Inside (q, g))) x = x
-  crossed-limited l (Some (Edge g n)) x = x
-
-  face-limited : (b : ℕ) (o : Option (ℕ × ℕ)) → FaceIn m b o → FaceIn (limited d m) b o
-  face-limited b None x = x
-  face-limited b (Some (i, a)) x = x
-
   belongs-limited : (l p f i a : ℕ) → l < d → Belongs m l p f i a → Belongs (limited d m) l p f i a
   belongs-limited l p f i a hl (j, e) = (j, some-given (ltb l d) (m .faceChild l p f j) (i, a) (lt-ltb l d hl) e)
 
@@ -60,15 +51,15 @@ module _ (m : Model) (ok : Lawful m) (d : ℕ) where
         faces = b .faces;
         depth = (omega (arith, b .depth .0), omega (arith, b .depth .1, mul-le-mul-left (m .w) (min-le-left (m .D) d)));
         across-in = λ l p f c hf. (let hl : l ≤ d = omega (arith, c .0) in
-            rw (at-level m d l (m .across l p f) hl) (crossed-limited m d l (m .across l p f) (b .across-in l p f (omega (arith, c .0), c .1) hf)));
+            rw (at-level m d l (m .across l p f) hl) (crossed-alike m (limited d m) refl refl l (m .across l p f) (b .across-in l p f (omega (arith, c .0), c .1) hf)));
         across-out = λ l p f e. (let z = given-is (leb l d) (m .across l p f) e in let w = b .across-out l p f (z .1) in
             ((omega (arith, w .0 .0, leb-true l d (z .0)), w .0 .1), w .1));
         edge-in = λ l g n c. (let hl : l ≤ d = omega (arith, c .0) in
-            rw (at-level m d l (m .atEdge l g n) hl) (face-limited m d (k m ^ l) (m .atEdge l g n) (b .edge-in l g n (omega (arith, c .0), c .1, c .2))));
+            rw (at-level m d l (m .atEdge l g n) hl) (face-alike m (limited d m) refl refl (k m ^ l) (m .atEdge l g n) (b .edge-in l g n (omega (arith, c .0), c .1, c .2))));
         edge-out = λ l g n e. (let z = given-is (leb l d) (m .atEdge l g n) e in let w = b .edge-out l g n (z .1) in
             (omega (arith, w .0, leb-true l d (z .0)), w .1, w .2));
         child-in = λ l p f j hl hp hf hj. (let hd : l < d = omega arith in
-            rw (lt-ltb l d hd) (face-limited m d (k m) (m .faceChild l p f j) (b .child-in l p f j (omega arith) hp hf hj)));
+            rw (lt-ltb l d hd) (face-alike m (limited d m) refl refl (k m) (m .faceChild l p f j) (b .child-in l p f j (omega arith) hp hf hj)));
         child-out = λ l p f j e. (let z = given-is (ltb l d) (m .faceChild l p f j) e in let w = b .child-out l p f j (z .1) in
             (omega (arith, w .0, ltb-true l d (z .0)), w .1, w .2, w .3));
         sort-in = b .sort-in;

@@ -1,5 +1,5 @@
 -- A lawful scheme is lawful with its faces' own numbers as sorts.
-use mathlib.Core.Path.{_≡_, refl, sym, _∙_, ap}
+use mathlib.Core.Path.{_≡_, refl, _∙_, ap}
 use mathlib.Core.Bool.{Bool, true, false}
 use Prim.Native.Nat.{ℕ, suc, _/_, _^_, _≤_, _<_}
 use native.Mathlib.Omega.{arith}
@@ -8,10 +8,9 @@ use Rattle.std.proofs.shelf.Tests.{ltb-true, lt-ltb}
 use Rattle.std.specs.declared.option.Option.{Option}
 use Rattle.std.specs.declared.option.Option.the-variants.{Some, None}
 use Rattle.std.specs.Options.{isSome}
-use Rattle.scheme.specs.declared.crossing.Crossing.{Crossing}
-use Rattle.scheme.specs.declared.crossing.Crossing.the-variants.{Inside, Edge}
+use Rattle.scheme.proofs.Alike.{crossed-alike, face-alike}
 use Rattle.scheme.specs.Limiting.{given}
-use Rattle.scheme.specs.Scheme.{Model, k, h, Lawful, Bounded, CrossedIn, FaceIn}
+use Rattle.scheme.specs.Scheme.{Model, k, h, Lawful, Bounded}
 use Rattle.trials.specs.Relabelling.{by-sort, relabelled}
 
 given-is : (b : Bool) (g : ℕ) → isSome (given b (Some g)) ≡ true → b ≡ true
@@ -27,15 +26,6 @@ is-some (Some t) e = (t, refl)
 is-some None e = (0, cc e)
 
 module _ (m : Model) (ok : Lawful m) where
-  crossed : (l : ℕ) (o : Option Crossing) → CrossedIn m l o → CrossedIn (relabelled m) l o
-  crossed l None x = x
-  crossed l (Some (Inside (q, g))) x = x
-  crossed l (Some (Edge g n)) x = x
-
-  face : (b : ℕ) (o : Option (ℕ × ℕ)) → FaceIn m b o → FaceIn (relabelled m) b o
-  face b None x = x
-  face b (Some (i, a)) x = x
-
   own : (g : ℕ) → g < m .F → relabelled m .sort g ≡ Some g
   own g hg = rw (lt-ltb g (m .F) hg)
 
@@ -72,11 +62,11 @@ module _ (m : Model) (ok : Lawful m) where
         width = b .width;
         faces = b .faces;
         depth = b .depth;
-        across-in = λ l p f c hf. crossed l (m .across l p f) (b .across-in l p f c hf);
+        across-in = λ l p f c hf. crossed-alike m (relabelled m) refl refl l (m .across l p f) (b .across-in l p f c hf);
         across-out = b .across-out;
-        edge-in = λ l g n c. face (k m ^ l) (m .atEdge l g n) (b .edge-in l g n c);
+        edge-in = λ l g n c. face-alike m (relabelled m) refl refl (k m ^ l) (m .atEdge l g n) (b .edge-in l g n c);
         edge-out = b .edge-out;
-        child-in = λ l p f j hl hp hf hj. face (k m) (m .faceChild l p f j) (b .child-in l p f j hl hp hf hj);
+        child-in = λ l p f j hl hp hf hj. face-alike m (relabelled m) refl refl (k m) (m .faceChild l p f j) (b .child-in l p f j hl hp hf hj);
         child-out = b .child-out;
         sort-in = λ g hg. ap isSome (own g hg);
         sort-out = λ g e. ltb-true g (m .F) (given-is (ltb g (m .F)) g e);

@@ -1,4 +1,3 @@
-ghost use mathlib.Core.Path.{_≡_};
 ghost use Rattle.trials.specs.Relabelling.{relabelled};
 use scheme::Crossing;
 use scheme::Scheme;

@@ -1,15 +1,12 @@
 use mathlib.Core.Path.{_≡_, ap, _∙_}
 use Prim.Native.Nat.{ℕ, _*_, _^_, _≤_}
 use native.Mathlib.Omega.{arith}
-use native.Mathlib.Nat.{mul-le-mul-left, mul-le-mul}
+use native.Mathlib.Nat.{mul-le-mul}
 use lib.Pow.{pow-mono}
 use Rattle.scheme.specs.Scheme.{Model, Lawful, k}
 use Rattle.tiling.proofs.Filling.{power}
+use Rattle.forest.proofs.Digits.{digits}
 use Rattle.forest.proofs.plant.admit.Needs as need
-
--- a cell's digits fit in 54 bits
-digits : (w D l : ℕ) → l ≤ D → w * D ≤ 54 → w * l ≤ 54
-digits w D l le fits = omega (arith, mul-le-mul-left w le)
 
 -- at most 256 roots of 2^54 cells
 few : (roots w l n : ℕ) → roots ≤ 256 → w * l ≤ 54 → n ≡ 2 ^ (w * l) → roots * n ≤ 4611686018427387904

@@ -1,9 +1,8 @@
 use mathlib.Core.Path.{_≡_, refl, ap, _∙_, sym, subst}
 use mathlib.Core.Bool.{true}
 use mathlib.Core.List.{List, _++_}
-use Prim.Native.Nat.{ℕ, _*_, _^_, _≤_, min}
+use Prim.Native.Nat.{ℕ, _*_, _^_, min}
 use native.Mathlib.Omega.{arith}
-use native.Mathlib.Nat.{mul-le-mul-left}
 use borrow.Author.Needs.{needs}
 use lib.ListN.{length, take, drop}
 use Rattle.std.specs.Of.Vec.{vec-items}
@@ -16,11 +15,8 @@ use Rattle.forest.specs.Planting.{counted, Stopped}
 use Rattle.forest.proofs.Overlaid.{refill}
 use Rattle.forest.proofs.EvenlyPlanted.{planted-tiles, planted-long, planted-cells}
 use Rattle.forest.proofs.OnePlanting.{one-planting}
+use Rattle.forest.proofs.Digits.{digits}
 use Rattle.forest.proofs.forest.Forest.plant.Needs as need
-
--- the width times a level that is not too deep is at most 54
-digits : (w D l : ℕ) → l ≤ D → w * D ≤ 54 → w * l ≤ 54
-digits w D l le fits = omega (arith, mul-le-mul-left w le)
 
 pub lay-requires : need.lay-requires
 lay-requires g c κs =
