@@ -14,7 +14,7 @@ impl Forest {
     fn front(&self) -> &[Leaf]
         ensures { λ r. ⌜ now r ≡ leavesOf (now (self .entry)) ⌝ }
     {
-        &self.memory.as_slice()[0..self.count]
+        &self.records()[0..self.count]
     }
 
     /// The leaves, in curve order. While the forest is alive they tile the ground.
