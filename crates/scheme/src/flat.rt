@@ -5,7 +5,7 @@ use crate::scheme::Scheme;
 
 /// A scheme that also places its cells on the plan.
 pub trait Flat: Scheme {
-    /// How many corners a cell has.
+    /// How many corners a cell has. A constant takes no contract: `corner_count` is the number that is proved.
     const CORNERS: usize;
 
     ghost plan: { Self → Plan };
@@ -16,7 +16,7 @@ pub trait Flat: Scheme {
 
     law agrees: { (s : Self) → Agrees (Self·Scheme .meaning s) (plan s) };
 
-    /// The constant as a number that contracts know.
+    /// How many corners a cell has on its plan, 1 to 4.
     fn corner_count(&self) -> usize
         ensures value { λ r. ⌜ r ≡ plan (now (self .entry)) .count ⌝ }
         ensures bounds { λ r. ⌜ (1 ≤ r) × (r ≤ 4) ⌝ };
@@ -33,7 +33,7 @@ pub trait Flat: Scheme {
         ensures bounds { λ r. ⌜ (2 ≤ r) × (r ≤ 4) ⌝ }
         ensures sorts { λ _. ⌜ FlatModel (Self·Scheme .meaning (now (self .entry))) ⌝ };
 
-    /// All corners of a cell, in ticks, those past `CORNERS` as (0, 0); outside the bounds all are.
+    /// All corners of a cell, in ticks, those past its count as (0, 0); outside the bounds all are.
     fn outline(&self, level: u8, place: u64) -> [(u32, u32); 4]
         ensures { λ r. ⌜ r ≡ outline-of (plan (now (self .entry))) level place ⌝ };
 }

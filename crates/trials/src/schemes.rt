@@ -163,3 +163,24 @@ fn a_limit_cuts_at_its_level() -> Result<(), Fail> {
     };
     check_eq(deep.depth(), 18)
 }
+
+/// The constant of a flat scheme.
+fn constant<S: Flat>(_scheme: &S) -> usize {
+    S::CORNERS
+}
+
+#[test]
+fn a_limit_copies_the_number_of_corners() -> Result<(), Fail> {
+    let line = Line::new();
+    let once = Limit {
+        below: line,
+        limit: 5,
+    };
+    let twice = Limit {
+        below: once,
+        limit: 3,
+    };
+    check_eq(constant(&line), 2)?;
+    check_eq(constant(&once), once.corner_count())?;
+    check_eq(constant(&twice), 2)
+}
