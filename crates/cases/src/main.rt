@@ -1,5 +1,7 @@
 //! Answers every description of the table `cases.txt`, and prints each answer under its name.
 
+#![tactic(auto)]
+
 mod hex;
 
 use hex::decode;

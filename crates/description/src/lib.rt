@@ -1,5 +1,7 @@
 //! Reads a mesh description: a head, joint rows and steps, from at most 8,192 bytes.
 
+#![tactic(auto)]
+
 mod bounds;
 mod description;
 mod head;

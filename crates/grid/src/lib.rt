@@ -1,5 +1,7 @@
 //! What the flat shapes share: the deepest level, lengths in ticks, how many cells there are, and turning an edge over.
 
+#![tactic(auto)]
+
 mod counts;
 mod lengths;
 

@@ -1,5 +1,7 @@
 //! Answers a mesh description with the listing of its forest, or with the fault that forbids it.
 
+#![tactic(auto)]
+
 mod answer;
 mod fault;
 mod listing;

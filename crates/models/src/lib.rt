@@ -1,5 +1,7 @@
 //! What the shapes mean, and the proofs of their laws: line, square, triangle, and the product of two flat schemes.
 
+#![tactic(auto)]
+
 mod anchor;
 
 ghost use Rattle.models.specs.Figures.{Figures};

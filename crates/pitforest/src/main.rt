@@ -1,5 +1,7 @@
 //! Reads a mesh description, from the file that its argument names or else from standard input, and prints its listing.
 
+#![tactic(auto)]
+
 use listing::{Answer, respond};
 use std::alloc::Global;
 use std::io::Read;

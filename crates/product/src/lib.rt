@@ -1,5 +1,7 @@
 //! The product of two flat schemes, whose cells are the pairs of theirs.
 
+#![tactic(auto)]
+
 mod crossed;
 mod product;
 mod weaving;

@@ -1,5 +1,7 @@
 //! Element schemes: how a root is cut into cells and how their faces meet, with the laws that every scheme shows.
 
+#![tactic(auto)]
+
 mod crossing;
 mod flat;
 mod limit;

@@ -1,5 +1,7 @@
 //! The square, its places in Morton order.
 
+#![tactic(auto)]
+
 mod morton;
 mod square;
 

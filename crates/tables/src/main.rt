@@ -1,6 +1,8 @@
 //! Prints what the shapes, their products and depth limits over them answer, to be compared with tables that
 //! `tools/tables.py` computes from the geometry of the cells.
 
+#![tactic(auto)]
+
 mod anchors;
 mod answer;
 mod asked;

@@ -1,5 +1,7 @@
 //! Leaves along the curve: what it means that a list of leaves tiles the ground, and its theory.
 
+#![tactic(auto)]
+
 mod leaf;
 
 ghost use Rattle.tiling.specs.Theorems.{TilingIsChain, TilingIsTest, EvenCut, TilingExamples};

@@ -1,5 +1,7 @@
 //! The library on examples: planting, meshes, joints, the answers of schemes, and what is printed.
 
+#![tactic(auto)]
+
 #[cfg(test)]
 mod crossing;
 #[cfg(test)]

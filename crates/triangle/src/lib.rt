@@ -1,5 +1,7 @@
 //! The triangle, its places in planar tetrahedral Morton order.
 
+#![tactic(auto)]
+
 mod tetrahedral;
 mod triangle;
 
