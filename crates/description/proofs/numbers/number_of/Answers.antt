@@ -8,18 +8,18 @@ pub loop-byte-init : goal.loop-byte-init
 unfolding be
 loop-byte-init c = (refl, omega arith)
 
-pub overflow-mul-value : goal.overflow-mul-value
-overflow-mul-value c =
+pub overflow_mul-value : goal.overflow_mul-value
+overflow_mul-value c =
     omega (arith, room c.loop-byte.byte-index c.loop-byte.value 0 (omega arith) c.loop-byte.invariant.1 (omega arith))
 
-pub overflow-add-value : goal.overflow-add-value
-overflow-add-value c =
-    let b : c.from.result < 256 = omega (arith, c.type-inv.bytes c.loop-byte.byte-index) in
+pub overflow_add-value : goal.overflow_add-value
+overflow_add-value c =
+    let b : c.from.result < 256 = omega (arith, c.type_inv.bytes c.loop-byte.byte-index) in
     omega (arith, room c.loop-byte.byte-index c.loop-byte.value c.from.result (omega arith) c.loop-byte.invariant.1 b)
 
 pub loop-byte-preserved : goal.loop-byte-preserved
 loop-byte-preserved c =
-    let b : c.from.result < 256 = omega (arith, c.type-inv.bytes c.loop-byte.byte-index) in
+    let b : c.from.result < 256 = omega (arith, c.type_inv.bytes c.loop-byte.byte-index) in
     let more = take_more c.args.bytes.now c.loop-byte.byte-index 0 c.loop-byte-test.true in
     let push = be_push c.loop-byte.byte-index c.loop-byte.value c.from.result b in
     (cc, fits_push c.loop-byte.byte-index c.loop-byte.value c.from.result c.loop-byte.invariant.1 b)

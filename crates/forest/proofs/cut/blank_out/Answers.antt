@@ -8,7 +8,7 @@ pub loop-record-preserved : goal.loop-record-preserved
 loop-record-preserved c =
     let i = c.loop-record.record-index in
     let P : Leaf → Type 0 = λ x. take (i + 1) (set c.loop-record.records i x) ≡ replicate (i + 1) blank in
-    subst P (sym c.store-blank.ensures)
+    subst P (sym c.store_blank.ensures)
     (take_more_set c.loop-record.records i blank (omega arith) ∙ (ap (λ t. t ++ (blank ∷ [])) c.loop-record.invariant ∙ replicate_more i blank))
 
 pub returns : goal.returns

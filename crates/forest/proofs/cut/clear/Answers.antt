@@ -7,9 +7,9 @@ pub returns : goal.returns
 returns c =
     let cap = c.args.cap in
     let s = c.args.records.now in
-    let bl = c.blank-out.new.records in
-    let long : length bl ≡ cap = front_long cap s bl c.requires c.blank-out.auto.records in
+    let bl = c.blank_out.new.records in
+    let long : length bl ≡ cap = front_long cap s bl c.requires c.blank_out.auto.records in
     record {
-      rest = front_rest cap s bl long ∙ (c.blank-out.ensures ∙ ap (λ k. replicate k blank) (sym c.blank-out.auto.records ∙ (long ∙ omega arith)));
+      rest = front_rest cap s bl long ∙ (c.blank_out.ensures ∙ ap (λ k. replicate k blank) (sym c.blank_out.auto.records ∙ (long ∙ omega arith)));
       past = front_past cap s bl long;
     }

@@ -7,8 +7,8 @@ use Rattle.tiling.specs.Positions.{even}
 use Rattle.tiling.specs.declared.leaf.Leaf.{Leaf}
 use Rattle.forest.proofs.cut.cut_evenly.Goals as goal
 
-pub even-leaf-requires : goal.even-leaf-requires
-even-leaf-requires c =
+pub even_leaf-requires : goal.even_leaf-requires
+even_leaf-requires c =
     let m = c.args.width * c.args.level in
     let lt : c.loop-i.i < c.args.roots * 2 ^ m = omega (arith, c.requires.long) in
     let d : c.loop-i.i / 2 ^ m < c.args.roots = div_below c.loop-i.i (2 ^ m) c.args.roots (pow_pos m) lt in
@@ -17,8 +17,8 @@ even-leaf-requires c =
 pub loop-i-preserved : goal.loop-i-preserved
 loop-i-preserved c =
     let i = c.loop-i.i in
-    let here : c.even-leaf.result ≡ even c.args.width c.args.level i =
-    c.even-leaf.ensures ∙ ap (λ (each : ℕ). record { root = i / each; level = c.args.level; place = i % each }) c.cells-each.ensures in
+    let here : c.even_leaf.result ≡ even c.args.width c.args.level i =
+    c.even_leaf.ensures ∙ ap (λ (each : ℕ). record { root = i / each; level = c.args.level; place = i % each }) c.cells-each.ensures in
     let P : Leaf → Type 0 = λ x. (k : ℕ) → k < i + 1 → get_or (set c.loop-i.records i x) k blank ≡ even c.args.width c.args.level k in
     subst P (sym here) (fill_by_more (even c.args.width c.args.level) c.loop-i.records i blank (omega arith) c.loop-i.invariant)
 

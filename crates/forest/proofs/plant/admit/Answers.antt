@@ -18,8 +18,8 @@ pub cells-requires : goal.cells-requires
 cells-requires g c =
     within (g.S.Scheme.meaning c.args.scheme.now) (g.met.S.Scheme.lawful c.args.scheme.now) c.width.result c.depth.result c.args.level c.width.ensures.value c.depth.ensures.value c.if-level-depth.false
 
-pub overflow-mul-leaves : goal.overflow-mul-leaves
-overflow-mul-leaves g c =
+pub overflow_mul-leaves : goal.overflow_mul-leaves
+overflow_mul-leaves g c =
     let fits = within (g.S.Scheme.meaning c.args.scheme.now) (g.met.S.Scheme.lawful c.args.scheme.now) c.width.result c.depth.result c.args.level c.width.ensures.value c.depth.ensures.value c.if-level-depth.false in
     omega (arith, few c.args.mesh.now.roots c.width.result c.args.level c.cells.result c.in-default.ensures.verdict.0.1 fits c.cells.ensures)
 

@@ -8,8 +8,8 @@ within l n s hl hn e =
     let p : 2 ^ l * 2 ^ (18 - l) ≡ 262144 = sym (pow-add 2 l (18 - l)) ∙ ap (λ x. 2 ^ x) all in
     rw e (omega (arith, mul-le-mul_right (2 ^ (18 - l)) hn, p))
 
-pub overflow-mul-result : goal.overflow-mul-result
-overflow-mul-result c = omega (arith, within c.args.level c.args.sides c.side.result c.requires.level c.requires.within c.side.ensures)
+pub overflow_mul-result : goal.overflow_mul-result
+overflow_mul-result c = omega (arith, within c.args.level c.args.sides c.side.result c.requires.level c.requires.within c.side.ensures)
 
-pub overflow-cast-result : goal.overflow-cast-result
-overflow-cast-result c = omega (arith, within c.args.level c.args.sides c.side.result c.requires.level c.requires.within c.side.ensures)
+pub overflow_cast-result : goal.overflow_cast-result
+overflow_cast-result c = omega (arith, within c.args.level c.args.sides c.side.result c.requires.level c.requires.within c.side.ensures)

@@ -31,21 +31,21 @@ pub returns-in-0 : goal.returns-in-0
 returns-in-0 c =
     let l = c.args.level in
     let p = c.args.place in
-    c.lowered.ensures ∙ along_x l p c.places-x-bits.result (all_places l c.places-x-bits.result c.requires.level c.places-x-bits.ensures.value) lowered ∙ lowered_x l p c.requires.place
+    c.lowered.ensures ∙ along_x l p c.places-x_bits.result (all_places l c.places-x_bits.result c.requires.level c.places-x_bits.ensures.value) lowered ∙ lowered_x l p c.requires.place
     ∙ at_face l (square_x l p) (square_y l p) c.args.face 0 c.in-0.is
 
 pub returns-in-1 : goal.returns-in-1
 returns-in-1 c =
     let l = c.args.level in
     let p = c.args.place in
-    c.raised.ensures ∙ along_x l p c.places-x-bits.result (all_places l c.places-x-bits.result c.requires.level c.places-x-bits.ensures.value) raised ∙ raised_x l p c.requires.place
+    c.raised.ensures ∙ along_x l p c.places-x_bits.result (all_places l c.places-x_bits.result c.requires.level c.places-x_bits.ensures.value) raised ∙ raised_x l p c.requires.place
     ∙ at_face l (square_x l p) (square_y l p) c.args.face 1 c.in-1.is
 
 pub returns-in-2 : goal.returns-in-2
 returns-in-2 c =
     let l = c.args.level in
     let p = c.args.place in
-    c.lowered-in-2.ensures ∙ along_y l p c.places-x-bits.result (all_places l c.places-x-bits.result c.requires.level c.places-x-bits.ensures.value) lowered ∙ lowered_y l p c.requires.place
+    c.lowered-in-2.ensures ∙ along_y l p c.places-x_bits.result (all_places l c.places-x_bits.result c.requires.level c.places-x_bits.ensures.value) lowered ∙ lowered_y l p c.requires.place
     ∙ at_face l (square_x l p) (square_y l p) c.args.face 2 c.in-2.is
 
 pub returns-in-default : goal.returns-in-default
@@ -53,5 +53,5 @@ returns-in-default c =
     let l = c.args.level in
     let p = c.args.place in
     let three : c.args.face ≡ 3 = omega arith in
-    c.raised-in-default.ensures ∙ along_y l p c.places-x-bits.result (all_places l c.places-x-bits.result c.requires.level c.places-x-bits.ensures.value) raised ∙ raised_y l p c.requires.place
+    c.raised-in-default.ensures ∙ along_y l p c.places-x_bits.result (all_places l c.places-x_bits.result c.requires.level c.places-x_bits.ensures.value) raised ∙ raised_y l p c.requires.place
     ∙ at_face l (square_x l p) (square_y l p) c.args.face 3 three

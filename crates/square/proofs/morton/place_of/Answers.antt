@@ -8,11 +8,11 @@ loop-i-init c = at_start c.args.level c.args.x c.args.y
 small : (c : goal.In-loop-i) → c.loop-i.place < 68719476736
 small c = at_small (c.args.level - c.loop-i.i) (c.args.x / 2 ^ c.loop-i.i) (c.args.y / 2 ^ c.loop-i.i) c.loop-i.place (omega arith) c.loop-i.invariant
 
-pub overflow-mul-place : goal.overflow-mul-place
-overflow-mul-place c = omega (arith, small c)
+pub overflow_mul-place : goal.overflow_mul-place
+overflow_mul-place c = omega (arith, small c)
 
-pub overflow-add-place-in-loop-i : goal.overflow-add-place-in-loop-i
-overflow-add-place-in-loop-i c = omega (arith, small c)
+pub overflow_add-place-in-loop-i : goal.overflow_add-place-in-loop-i
+overflow_add-place-in-loop-i c = omega (arith, small c)
 
 pub loop-i-preserved : goal.loop-i-preserved
 loop-i-preserved c = at_more c.args.level c.loop-i.i c.args.x c.args.y c.loop-i.place c.loop-i-test.true c.loop-i.auto.i c.loop-i.invariant

@@ -9,11 +9,11 @@ loop-i-init c = x_start c.args.level c.args.place
 small : (c : goal.In-loop-i) → c.loop-i.x < 262144
 small c = x_small (c.args.level - c.loop-i.i) (c.args.place / 2 ^ (2 * c.loop-i.i)) c.loop-i.x (omega arith) c.loop-i.invariant
 
-pub overflow-mul-x : goal.overflow-mul-x
-overflow-mul-x c = omega (arith, small c)
+pub overflow_mul-x : goal.overflow_mul-x
+overflow_mul-x c = omega (arith, small c)
 
-pub overflow-add-x : goal.overflow-add-x
-overflow-add-x c = omega (arith, small c)
+pub overflow_add-x : goal.overflow_add-x
+overflow_add-x c = omega (arith, small c)
 
 pub loop-i-preserved : goal.loop-i-preserved
 loop-i-preserved c = x_more c.args.level c.loop-i.i c.args.place c.loop-i.x c.loop-i-test.true c.loop-i.auto.i c.loop-i.invariant

@@ -4,6 +4,6 @@ use Rattle.square.proofs.morton.y_of.Goals as goal
 
 pub returns : goal.returns
 returns c = record {
-  value = c.x-of.ensures.value ∙ sym (y_as_x c.args.level c.args.place);
-  within = c.x-of.ensures.within;
+  value = c.x_of.ensures.value ∙ sym (y_as_x c.args.level c.args.place);
+  within = c.x_of.ensures.within;
 }

@@ -6,11 +6,11 @@ use Rattle.triangle.proofs.tetrahedral.place_of.Goals as goal
 pub loop-i-init : goal.loop-i-init
 loop-i-init c = woven_start c.args.level c.args.cell.x c.args.cell.y c.args.cell.ty c.requires.ty
 
-pub child-number-requires : goal.child-number-requires
-child-number-requires c = record { dx = omega arith; dy = omega arith; ty = c.loop-i.invariant.type }
+pub child_number-requires : goal.child_number-requires
+child_number-requires c = record { dx = omega arith; dy = omega arith; ty = c.loop-i.invariant.type }
 
-pub overflow-add-place : goal.overflow-add-place
-overflow-add-place c =
+pub overflow_add-place : goal.overflow_add-place
+overflow_add-place c =
     let small = at_small c.args.level c.args.cell.x c.args.cell.y c.args.cell.ty c.requires.level c.requires.ty in
     omega (
       arith,
@@ -24,7 +24,7 @@ loop-i-preserved c =
     let small = at_small c.args.level c.args.cell.x c.args.cell.y c.args.cell.ty c.requires.level c.requires.ty in
     rw (add-one c.loop-i.i) (woven_more c.args.level c.loop-i.i c.loop-i.x c.loop-i.y c.loop-i.ty c.loop-i.place
     (triangle_at c.args.level c.args.cell.x c.args.cell.y c.args.cell.ty) c.loop-i-test.true c.loop-i.invariant
-    c.child_number.result c.parent-type-ty.result small c.child_number.ensures c.parent-type-ty.ensures)
+    c.child_number.result c.parent_type-ty.result small c.child_number.ensures c.parent_type-ty.ensures)
 
 pub returns : goal.returns
 returns c = woven_done c.args.level c.loop-i.i c.loop-i.x c.loop-i.y c.loop-i.ty c.loop-i.place _ c.loop-i-test.false c.loop-i.invariant

@@ -15,10 +15,10 @@ pub returns : goal.returns
 returns c =
     let n : c.args.self.now.at + c.args.n - c.args.self.now.at ≡ c.args.n = omega arith in
     let long : length (take c.args.n (left c.args.self.now)) ≡ c.args.n = length-take-le c.args.n (left c.args.self.now) c.requires.room in
-    let is : be c.args.n c.number-of.result ≡ take c.args.n (left c.args.self.now) = simp (n, long) at c.number-of.ensures.bytes in
+    let is : be c.args.n c.number_of.result ≡ take c.args.n (left c.args.self.now) = simp (n, long) at c.number_of.ensures.bytes in
     let way = pass _ _ c.args.n _ refl refl c.requires.room is in
     record {
       passed = way;
-      fewer = omega (arith, fewer way, length_be c.args.n c.number-of.result);
-      fits = simp (n, long) at c.number-of.ensures.fits;
+      fewer = omega (arith, fewer way, length_be c.args.n c.number_of.result);
+      fits = simp (n, long) at c.number_of.ensures.fits;
     }

@@ -8,16 +8,16 @@ use Rattle.description.proofs.reader.Reader.rows.Goals as goal
 pub loop-init : goal.loop-init
 loop-init c = rows_none c.args.self.now _ c.new-joints.ensures.items
 
-pub returns-in-err-joint : goal.returns-in-err-joint
-returns-in-err-joint c =
-    let h = c.in-err-joint.ensures in
-    at_err c.from-residual.result _ _ c.in-err-joint.field-0.0 c.from-residual.ensures.1
-    (inr (rows_stop _ _ _ (told c.in-err-joint.field-0.0) c.loop.invariant c.loop-test.true h.0 h.1))
+pub returns-in_err-joint : goal.returns-in_err-joint
+returns-in_err-joint c =
+    let h = c.in_err-joint.ensures in
+    at_err c.from_residual.result _ _ c.in_err-joint.field-0.0 c.from_residual.ensures.1
+    (inr (rows_stop _ _ _ (told c.in_err-joint.field-0.0) c.loop.invariant c.loop-test.true h.0 h.1))
 
 pub loop-preserved : goal.loop-preserved
 loop-preserved c =
-    let h = c.in-ok-joint.ensures in
-    rows_more _ _ _ _ {r'' = c.row.new.self} c.loop.invariant h.0 h.1 (pushed (_ ∷ []) refl c.in-ok-push.was c.push.ensures.items)
+    let h = c.in_ok-joint.ensures in
+    rows_more _ _ _ _ {r'' = c.row.new.self} c.loop.invariant h.0 h.1 (pushed (_ ∷ []) refl c.in_ok-push.was c.push.ensures.items)
 
 pub returns : goal.returns
 returns c =

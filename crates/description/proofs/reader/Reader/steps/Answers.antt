@@ -15,19 +15,19 @@ loop-self-init c =
     subst (λ (z : List Step). All (StepWithin c.args.scheme) z × Passed c.args.self.now c.args.self.now (flat_map step_bytes z))
     (sym c.new-steps.ensures.items) (tt, pass_none c.args.self.now)
 
-pub returns-in-err-step : goal.returns-in-err-step
-returns-in-err-step c =
-    let h = c.in-err-step.ensures in
-    at_err c.from-residual.result _ _ c.in-err-step.field-0.0 c.from-residual.ensures.1
-    (inr (stop step_bytes (StepWithin c.args.scheme) (StepFault c.args.scheme) _ (told c.in-err-step.field-0.0) c.loop-self.invariant.0 c.loop-self.invariant.1 h.0 h.1))
+pub returns-in_err-step : goal.returns-in_err-step
+returns-in_err-step c =
+    let h = c.in_err-step.ensures in
+    at_err c.from_residual.result _ _ c.in_err-step.field-0.0 c.from_residual.ensures.1
+    (inr (stop step_bytes (StepWithin c.args.scheme) (StepFault c.args.scheme) _ (told c.in_err-step.field-0.0) c.loop-self.invariant.0 c.loop-self.invariant.1 h.0 h.1))
 
 pub loop-self-smaller : goal.loop-self-smaller
-loop-self-smaller c = let h = c.in-ok-step.ensures in step_shorter {r' = c.step.new.self} _ h.1
+loop-self-smaller c = let h = c.in_ok-step.ensures in step_shorter {r' = c.step.new.self} _ h.1
 
 pub loop-self-preserved : goal.loop-self-preserved
 loop-self-preserved c =
-    let h = c.in-ok-step.ensures in
-    steps_more c.args.scheme _ _ _ c.loop-self.invariant h.0 h.1 (pushed (_ ∷ []) refl c.in-ok-push.was c.push.ensures.items)
+    let h = c.in_ok-step.ensures in
+    steps_more c.args.scheme _ _ _ c.loop-self.invariant h.0 h.1 (pushed (_ ∷ []) refl c.in_ok-push.was c.push.ensures.items)
 
 pub returns : goal.returns
 returns c = steps_all c.args.scheme _ c.loop-self.invariant (omega arith)

@@ -4,19 +4,19 @@ use Rattle.description.proofs.Passage.{then}
 use Rattle.description.proofs.Tags.{cut_step, unknown, passed_as}
 use Rattle.description.proofs.reader.Reader.tagged.Goals as goal
 
-pub returns-then-is-cut : goal.returns-then-is-cut
-returns-then-is-cut c = (refl, cut_step c.number.result c.number.ensures.fits c.number.ensures.passed (inl c.in-6.is) (omega arith))
+pub returns-then-is_cut : goal.returns-then-is_cut
+returns-then-is_cut c = (refl, cut_step c.number.result c.number.ensures.fits c.number.ensures.passed (inl c.in-6.is) (omega arith))
 
-pub returns-then-is-cut-2 : goal.returns-then-is-cut-2
-returns-then-is-cut-2 c = (refl, cut_step c.number.result c.number.ensures.fits c.number.ensures.passed (inr c.in-7.is) (omega arith))
+pub returns-then-is_cut-2 : goal.returns-then-is_cut-2
+returns-then-is_cut-2 c = (refl, cut_step c.number.result c.number.ensures.fits c.number.ensures.passed (inr c.in-7.is) (omega arith))
 
-pub returns-else-is-cut : goal.returns-else-is-cut
+pub returns-else-is_cut : goal.returns-else-is_cut
 unfolding step_bytes
-returns-else-is-cut c = (c.window-values.ensures.fits, then (passed_as c.in-6.is c.number.ensures.passed) c.window-values.ensures.passed)
+returns-else-is_cut c = (c.window_values.ensures.fits, then (passed_as c.in-6.is c.number.ensures.passed) c.window_values.ensures.passed)
 
-pub returns-else-is-cut-2 : goal.returns-else-is-cut-2
+pub returns-else-is_cut-2 : goal.returns-else-is_cut-2
 unfolding step_bytes
-returns-else-is-cut-2 c = (c.range-values.ensures.fits, then (passed_as c.in-7.is c.number.ensures.passed) c.range-values.ensures.passed)
+returns-else-is_cut-2 c = (c.range_values.ensures.fits, then (passed_as c.in-7.is c.number.ensures.passed) c.range_values.ensures.passed)
 
 pub returns-in-8 : goal.returns-in-8
 unfolding step_bytes

@@ -20,7 +20,7 @@ lay-requires g c =
       fits = digits s.width s.depth c.args.level (omega (arith, ok.1, signed.depth)) s.depths.1;
       long = ok.2 ∙ ap (λ w. c.args.mesh.roots * 2 ^ (w * c.args.level)) (sym signed.width);
       room = ok.3;
-      cap = omega (arith, c.len.ensures, c.min-cap.ensures, c.as-mut-slice.ensures.len);
+      cap = omega (arith, c.len.ensures, c.min-cap.ensures, c.as_mut_slice.ensures.len);
     }
 
 pub invariant-of-forest : goal.invariant-of-forest
@@ -30,7 +30,7 @@ invariant-of-forest g c =
     let n = c.args.memory.len in
     let ws = c.lay.new.records in
     let items = c.args.memory.items in
-    let wl : length ws ≡ n = c.lay.auto.records ∙ c.as-mut-slice.ensures.len in
+    let wl : length ws ≡ n = c.lay.auto.records ∙ c.as_mut_slice.ensures.len in
     let e : take n (ws ++ drop (length ws) items) ≡ ws = refill n ws items wl in
     let cap_is : c.min-cap.result ≡ min n 65536 = omega (arith, c.len.ensures, c.min-cap.ensures) in
     let roots = c.args.mesh.roots in
@@ -44,14 +44,14 @@ invariant-of-forest g c =
     )
 
 pub clear-requires : goal.clear-requires
-clear-requires g c = omega (arith, c.len.ensures, c.min-cap.ensures, c.as-mut-slice-in-Err.ensures.len)
+clear-requires g c = omega (arith, c.len.ensures, c.min-cap.ensures, c.as_mut_slice-in-Err.ensures.len)
 
 pub invariant-of-forest-in-Err : goal.invariant-of-forest-in-Err
 invariant-of-forest-in-Err g c =
     let n = c.args.memory.len in
     let ws = c.clear.new.records in
     let items = c.args.memory.items in
-    let wl : length ws ≡ n = c.clear.auto.records ∙ c.as-mut-slice-in-Err.ensures.len in
+    let wl : length ws ≡ n = c.clear.auto.records ∙ c.as_mut_slice-in-Err.ensures.len in
     let e : take n (ws ++ drop (length ws) items) ≡ ws = refill n ws items wl in
     let cap_is : c.min-cap.result ≡ min n 65536 = omega (arith, c.len.ensures, c.min-cap.ensures) in
     let B : List Leaf → ℕ → Type 0 = λ xs cap. Blank xs 0 cap in
@@ -70,15 +70,15 @@ returns-in-Ok g c =
     let old : List Leaf = vec_items c.args.memory in
     let n = c.args.memory.len in
     let ws = c.lay.new.records in
-    let wl : length ws ≡ n = c.lay.auto.records ∙ c.as-mut-slice.ensures.len in
+    let wl : length ws ≡ n = c.lay.auto.records ∙ c.as_mut_slice.ensures.len in
     let e : take n (ws ++ drop (length ws) c.args.memory.items) ≡ ws = refill n ws c.args.memory.items wl in
-    let long : length old ≡ n = ap length (sym c.as-mut-slice.ensures.value) ∙ c.as-mut-slice.ensures.len in
+    let long : length old ≡ n = ap length (sym c.as_mut_slice.ensures.value) ∙ c.as_mut_slice.ensures.len in
     let cap_is : c.min-cap.result ≡ counted old = omega (arith, c.len.ensures, c.min-cap.ensures, long) in
     let all : take c.in-Ok.count (take n (ws ++ drop (length ws) c.args.memory.items)) ≡ evenly roots m.w l =
     ap (take c.in-Ok.count) e ∙ c.lay.ensures.front ∙ ap (λ w. evenly roots w l) signed.width in
     let is : c.in-Ok.count ≡ roots * k m ^ l = ok.2 ∙ ap (λ x. roots * x) (power m.w l) in
     let D : List Leaf → ℕ → Type 0 = λ xs cap. drop cap xs ≡ drop cap old in
-    let past : D ws c.min-cap.result = c.lay.ensures.past ∙ ap (drop c.min-cap.result) c.as-mut-slice.ensures.value in
+    let past : D ws c.min-cap.result = c.lay.ensures.past ∙ ap (drop c.min-cap.result) c.as_mut_slice.ensures.value in
     let rest : Blank ws c.in-Ok.count (counted old) = subst (λ cap. Blank ws c.in-Ok.count cap) cap_is c.lay.ensures.rest in
     record {
       planted = record {
@@ -109,12 +109,12 @@ returns-in-Err g c =
     let old : List Leaf = vec_items c.args.memory in
     let n = c.args.memory.len in
     let ws = c.clear.new.records in
-    let wl : length ws ≡ n = c.clear.auto.records ∙ c.as-mut-slice-in-Err.ensures.len in
+    let wl : length ws ≡ n = c.clear.auto.records ∙ c.as_mut_slice-in-Err.ensures.len in
     let e : take n (ws ++ drop (length ws) c.args.memory.items) ≡ ws = refill n ws c.args.memory.items wl in
-    let long : length old ≡ n = ap length (sym c.as-mut-slice-in-Err.ensures.value) ∙ c.as-mut-slice-in-Err.ensures.len in
+    let long : length old ≡ n = ap length (sym c.as_mut_slice-in-Err.ensures.value) ∙ c.as_mut_slice-in-Err.ensures.len in
     let cap_is : c.min-cap.result ≡ counted old = omega (arith, c.len.ensures, c.min-cap.ensures, long) in
     let D : List Leaf → ℕ → Type 0 = λ xs cap. drop cap xs ≡ drop cap old in
-    let past : D ws c.min-cap.result = c.clear.ensures.past ∙ ap (drop c.min-cap.result) c.as-mut-slice-in-Err.ensures.value in
+    let past : D ws c.min-cap.result = c.clear.ensures.past ∙ ap (drop c.min-cap.result) c.as_mut_slice-in-Err.ensures.value in
     let rest : Blank ws 0 (counted old) = subst (λ cap. Blank ws 0 cap) cap_is c.clear.ensures.rest in
     record {
       planted = record {

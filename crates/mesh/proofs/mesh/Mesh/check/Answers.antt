@@ -7,11 +7,11 @@ use Rattle.mesh.proofs.Acceptance.{accepted_joined}
 use Rattle.mesh.proofs.Sampling.{sample_verdicts}
 use Rattle.mesh.proofs.mesh.Mesh.check.Goals as goal
 
-pub returns-then-not-counts-hold : goal.returns-then-not-counts-hold
-returns-then-not-counts-hold g c =
+pub returns-then-not-counts_hold : goal.returns-then-not-counts_hold
+returns-then-not-counts_hold g c =
     let roots = c.args.self.now.roots in
     record {
-      verdict = inl (refl, refl, λ k. both_ways c.counts-hold.result c.if-not-counts-hold.true (c.counts-hold.ensures.1 (subst (λ js. CountsIn roots js) (sym c.as-slice-joints.ensures.value) k)));
+      verdict = inl (refl, refl, λ k. both_ways c.counts_hold.result c.if-not-counts_hold.true (c.counts_hold.ensures.1 (subst (λ js. CountsIn roots js) (sym c.as_slice-joints.ensures.value) k)));
       one = one_verdict;
       accepted = accepted_joined;
       samples = sample_verdicts;
@@ -21,7 +21,7 @@ pub returns : goal.returns
 returns g c =
     let m = g.S.Scheme.meaning c.args.scheme.now in
     record {
-      verdict = subst (λ js. Verdict m c.args.self.now.roots js c.check-rows.result) c.as-slice-joints.ensures.value c.check-rows.ensures;
+      verdict = subst (λ js. Verdict m c.args.self.now.roots js c.check_rows.result) c.as_slice-joints.ensures.value c.check_rows.ensures;
       one = one_verdict;
       accepted = accepted_joined;
       samples = sample_verdicts;

@@ -5,9 +5,9 @@ use Rattle.mesh.proofs.Leading.{one_crossing, leads_back, crosses_iff_over, lead
 use Rattle.mesh.proofs.Sampling.{sample_crossings}
 use Rattle.mesh.proofs.mesh.Mesh.cross.Goals as goal
 
-pub returns-then-not-has-edge : goal.returns-then-not-has-edge
-returns-then-not-has-edge g c = record {
-  crossed = λ r' b n' x. both_ways c.has-edge.result c.if-not-has-edge.true (c.has-edge.ensures.1 x.there);
+pub returns-then-not-has_edge : goal.returns-then-not-has_edge
+returns-then-not-has_edge g c = record {
+  crossed = λ r' b n' x. both_ways c.has_edge.result c.if-not-has_edge.true (c.has_edge.ensures.1 x.there);
   one = one_crossing;
   back = leads_back;
   over = crosses_iff_over;
@@ -19,7 +19,7 @@ pub returns : goal.returns
 returns g c =
     let m = g.S.Scheme.meaning c.args.scheme.now in
     record {
-      crossed = subst (λ js. Crossed m js c.args.level c.args.root c.args.edge c.cross-rows.result) c.as-slice.ensures.value c.cross-rows.ensures;
+      crossed = subst (λ js. Crossed m js c.args.level c.args.root c.args.edge c.cross_rows.result) c.as_slice.ensures.value c.cross_rows.ensures;
       one = one_crossing;
       back = leads_back;
       over = crosses_iff_over;

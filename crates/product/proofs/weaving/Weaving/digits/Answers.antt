@@ -9,8 +9,8 @@ low_few n k few = let four : 2 ^ k ≤ 4 = pow_mono few in omega (arith, mod-lt 
 high_few : (n j k : ℕ) → k ≤ 2 → n < 2 ^ (j + k) → n / 2 ^ j < 4
 high_few n j k few hn = let four : 2 ^ k ≤ 4 = pow_mono few in omega (arith, shr_below n k j (rw (add_comm k j) hn), four)
 
-pub overflow-sub-result : goal.overflow-sub-result
-overflow-sub-result c = omega (arith, one_shl c.args.self.low 8 (omega arith), pow_pos c.args.self.low)
+pub overflow_sub-result : goal.overflow_sub-result
+overflow_sub-result c = omega (arith, one_shl c.args.self.low 8 (omega arith), pow_pos c.args.self.low)
 
 pub returns-then-number-width : goal.returns-then-number-width
 returns-then-number-width c =

@@ -2,8 +2,8 @@ use Rattle.std.proofs.Common.{◌+◌, ◌^◌, ◌≤◌, ap, ◌∙◌, mul_co
 use Rattle.std.proofs.lemmas.Nat.{shl_below, shl_whole}
 use Rattle.product.proofs.weaving.Weaving.pair.Goals as goal
 
-pub overflow-add-result : goal.overflow-add-result
-overflow-add-result c =
+pub overflow_add-result : goal.overflow_add-result
+overflow_add-result c =
     let n = c.args.high in
     let k = c.args.self.low in
     let few : 2 + k ≤ 4 = omega arith in
