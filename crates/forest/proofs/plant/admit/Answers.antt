@@ -21,7 +21,7 @@ cells-requires g c =
 pub overflow_mul-leaves : goal.overflow_mul-leaves
 overflow_mul-leaves g c =
     let fits = within (g.S.Scheme.meaning c.args.scheme.now) (g.met.S.Scheme.lawful c.args.scheme.now) c.width.result c.depth.result c.args.level c.width.ensures.value c.depth.ensures.value c.if-level-depth.false in
-    omega (arith, few c.args.mesh.now.roots c.width.result c.args.level c.cells.result c.in-default.ensures.verdict.0.1 fits c.cells.ensures)
+    omega (arith, few c.args.mesh.now.roots c.width.result c.args.level c.cells.result c.in_default.ensures.verdict.0.1 fits c.cells.ensures)
 
 pub returns-in-None : goal.returns-in-None
 returns-in-None g c =
@@ -29,4 +29,4 @@ returns-in-None g c =
     let each : c.cells.result ≡ k m ^ c.args.level =
     c.cells.ensures ∙ ap (λ w. 2 ^ (w * c.args.level)) c.width.ensures.value ∙ power m.w c.args.level in
     let shallow : c.args.level ≤ m.D = omega (arith, c.if-level-depth.false, c.depth.ensures.value) in
-    (c.in-default.ensures.verdict, shallow, rw each at c.in-None.ensures)
+    (c.in_default.ensures.verdict, shallow, rw each at c.in-None.ensures)

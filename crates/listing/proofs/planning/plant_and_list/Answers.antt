@@ -18,7 +18,7 @@ returns g c =
       no_steps = empty (vec_items steps) none;
       roots = ap (λ m. m.roots) p.mesh_kept;
       joints = ap (λ m. vec_items m.joints) p.mesh_kept;
-      grown = (c.in-default-planted.field-0, grown _ _ _ _ _ _ c.in-default-planted.field-0 p c.in-default-planted.is long);
+      grown = (c.in_default-planted.field-0, grown _ _ _ _ _ _ c.in_default-planted.field-0 p c.in_default-planted.is long);
       splits = refl;
       merges = refl;
     }

@@ -48,10 +48,10 @@ returns-in-2 c =
     c.lowered-in-2.ensures ∙ along_y l p c.places-x_bits.result (all_places l c.places-x_bits.result c.requires.level c.places-x_bits.ensures.value) lowered ∙ lowered_y l p c.requires.place
     ∙ at_face l (square_x l p) (square_y l p) c.args.face 2 c.in-2.is
 
-pub returns-in-default : goal.returns-in-default
-returns-in-default c =
+pub returns-in_default : goal.returns-in_default
+returns-in_default c =
     let l = c.args.level in
     let p = c.args.place in
     let three : c.args.face ≡ 3 = omega arith in
-    c.raised-in-default.ensures ∙ along_y l p c.places-x_bits.result (all_places l c.places-x_bits.result c.requires.level c.places-x_bits.ensures.value) raised ∙ raised_y l p c.requires.place
+    c.raised-in_default.ensures ∙ along_y l p c.places-x_bits.result (all_places l c.places-x_bits.result c.requires.level c.places-x_bits.ensures.value) raised ∙ raised_y l p c.requires.place
     ∙ at_face l (square_x l p) (square_y l p) c.args.face 3 three

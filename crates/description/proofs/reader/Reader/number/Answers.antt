@@ -6,8 +6,8 @@ use Rattle.description.proofs.Bytes.{length_be}
 use Rattle.description.proofs.Passage.{pass, fewer}
 use Rattle.description.proofs.reader.Reader.number.Goals as goal
 
-pub invariant-of-self : goal.invariant-of-self
-invariant-of-self c =
+pub invariant_of-self : goal.invariant_of-self
+invariant_of-self c =
     let long = length-drop c.args.self.now.at c.args.self.now.bytes.now in
     (omega (arith, long, c.args.self.now.within, c.requires.room), tt)
 

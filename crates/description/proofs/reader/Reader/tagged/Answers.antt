@@ -22,5 +22,5 @@ pub returns-in-8 : goal.returns-in-8
 unfolding step_bytes
 returns-in-8 c = (tt, passed_as c.in-8.is c.number.ensures.passed)
 
-pub returns-in-default : goal.returns-in-default
-returns-in-default c = (refl, unknown c.number.result c.number.ensures.fits c.number.ensures.passed (λ e. omega arith) (λ e. omega arith) (λ e. omega arith))
+pub returns-in_default : goal.returns-in_default
+returns-in_default c = (refl, unknown c.number.result c.number.ensures.fits c.number.ensures.passed (λ e. omega arith) (λ e. omega arith) (λ e. omega arith))

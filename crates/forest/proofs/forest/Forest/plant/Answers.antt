@@ -23,8 +23,8 @@ lay-requires g c =
       cap = omega (arith, c.len.ensures, c.min-cap.ensures, c.as_mut_slice.ensures.len);
     }
 
-pub invariant-of-forest : goal.invariant-of-forest
-invariant-of-forest g c =
+pub invariant_of-forest : goal.invariant_of-forest
+invariant_of-forest g c =
     let ok = c.in-Ok.ensures in
     let s = c.of-signature.result in
     let n = c.args.memory.len in
@@ -46,8 +46,8 @@ invariant-of-forest g c =
 pub clear-requires : goal.clear-requires
 clear-requires g c = omega (arith, c.len.ensures, c.min-cap.ensures, c.as_mut_slice-in-Err.ensures.len)
 
-pub invariant-of-forest-in-Err : goal.invariant-of-forest-in-Err
-invariant-of-forest-in-Err g c =
+pub invariant_of-forest-in-Err : goal.invariant_of-forest-in-Err
+invariant_of-forest-in-Err g c =
     let n = c.args.memory.len in
     let ws = c.clear.new.records in
     let items = c.args.memory.items in
