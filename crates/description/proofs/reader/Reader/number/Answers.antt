@@ -9,7 +9,7 @@ use Rattle.description.proofs.reader.Reader.number.Goals as goal
 pub invariant_of-self : goal.invariant_of-self
 invariant_of-self c =
     let long = length-drop c.args.self.now.at c.args.self.now.bytes.now in
-    (omega (arith, long, c.args.self.now.within, c.requires.room), tt)
+    record { within = omega (arith, long, c.args.self.now.within, c.requires.room) }
 
 pub returns : goal.returns
 returns c =

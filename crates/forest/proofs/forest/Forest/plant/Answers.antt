@@ -38,10 +38,14 @@ invariant_of-forest g c =
     let t : F (evenly roots s.width c.args.level) = even_filled s.width s.depth c.args.level roots (omega (arith, ok.1, c.of-signature.ensures.depth)) in
     let all : take c.in-Ok.count (take n (ws ++ drop (length ws) items)) ≡ evenly roots s.width c.args.level = ap (take c.in-Ok.count) e ∙ c.lay.ensures.front in
     let B : List Leaf → ℕ → Type 0 = λ xs cap. Blank xs c.in-Ok.count cap in
-    let b : B ws (min n 65536) = subst (B ws) cap_is c.lay.ensures.rest in (
-      (omega (arith, ok.3, cap_is), omega (arith, ok.3, cap_is)),
-      ((λ _. ok.0.0.1), ((λ _. subst F (sym all) t), ((λ h. search rules), (subst (λ xs. B xs (min n 65536)) (sym e) b, tt)))),
-    )
+    let b : B ws (min n 65536) = subst (B ws) cap_is c.lay.ensures.rest in
+    record {
+      room = (omega (arith, ok.3, cap_is), omega (arith, ok.3, cap_is));
+      few = λ _. ok.0.0.1;
+      ground = λ _. subst F (sym all) t;
+      dead = λ h. search rules;
+      blanks = subst (λ xs. B xs (min n 65536)) (sym e) b;
+    }
 
 pub clear-requires : goal.clear-requires
 clear-requires g c = omega (arith, c.len.ensures, c.min-cap.ensures, c.as_mut_slice-in-Err.ensures.len)
@@ -55,10 +59,14 @@ invariant_of-forest-in-Err g c =
     let e : take n (ws ++ drop (length ws) items) ≡ ws = refill n ws items wl in
     let cap_is : c.min-cap.result ≡ min n 65536 = omega (arith, c.len.ensures, c.min-cap.ensures) in
     let B : List Leaf → ℕ → Type 0 = λ xs cap. Blank xs 0 cap in
-    let b : B ws (min n 65536) = subst (B ws) cap_is c.clear.ensures.rest in (
-      (omega arith, omega arith),
-      ((λ h. search rules), ((λ h. search rules), ((λ _. refl), (subst (λ xs. B xs (min n 65536)) (sym e) b, tt)))),
-    )
+    let b : B ws (min n 65536) = subst (B ws) cap_is c.clear.ensures.rest in
+    record {
+      room = (omega arith, omega arith);
+      few = λ h. search rules;
+      ground = λ h. search rules;
+      dead = λ _. refl;
+      blanks = subst (λ xs. B xs (min n 65536)) (sym e) b;
+    }
 
 pub returns-in-Ok : goal.returns-in-Ok
 returns-in-Ok g c =
