@@ -4,12 +4,12 @@ use Rattle.listing.proofs.planning.plant_and_list.Goals as goal
 
 pub returns-in-Err : goal.returns-in-Err
 returns-in-Err g c =
-    let long : length (vec_items c.in-Ok.memory) ≡ 1024 = sym c.in-Ok.memory.ok.0 ∙ c.in-Ok.ensures.made.1 in
+    let long : length (vec_items c.in-Ok.memory) ≡ 1024 = sym c.in-Ok.memory.ok.0 ∙ c.in-Ok.ensures.len in
     stopped _ _ _ _ _ _ c.in-Err.fault c.plant-forest.ensures.planted c.in-Err.is long
 
 pub returns : goal.returns
 returns g c =
-    let long : length (vec_items c.in-Ok.memory) ≡ 1024 = sym c.in-Ok.memory.ok.0 ∙ c.in-Ok.ensures.made.1 in
+    let long : length (vec_items c.in-Ok.memory) ≡ 1024 = sym c.in-Ok.memory.ok.0 ∙ c.in-Ok.ensures.len in
     let p = c.plant-forest.ensures.planted in
     let steps = c.args.description.steps in
     let none : length (vec_items steps) ≡ 0 = omega (arith, steps.ok.0, c.len.ensures, c.if-len-gt0.false) in
