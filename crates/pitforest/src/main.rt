@@ -2,9 +2,11 @@
 
 #![tactic(auto)]
 
+use anyhow::bail;
 use listing::{Answer, respond};
 use std::alloc::Global;
 use std::io::Read;
+use std::process::ExitCode;
 use std::{env, fs};
 
 /// One byte more than a description may have, so that one that is too long is seen to be.
@@ -30,16 +32,19 @@ fn run(rt: &HostRuntime) -> anyhow::Result<()> {
     let text = match respond(rt.alloc(), bytes.as_slice()) {
         Answer::Listed(listing) => listing.text(rt.alloc())?,
         Answer::Refused(fault) => fault.line(rt.alloc())?,
-        Answer::Wanting(what) => return Err(what.sentence().into()),
+        Answer::Wanting(what) => bail!("{}", what.sentence()),
     };
     rt.print(text)?;
     Ok(())
 }
 
-fn main(rt: HostRuntime) -> anyhow::Result<()> {
-    let done = run(&rt);
-    if let Err(error) = &done {
-        eprintln!(rt; "pitforest: {error}")?;
+/// What goes wrong is told once, on standard error; a failure to tell it changes nothing more.
+fn main(rt: HostRuntime) -> ExitCode {
+    match run(&rt) {
+        Ok(()) => ExitCode::SUCCESS,
+        Err(error) => {
+            let _ = eprintln!(rt; "pitforest: {error}");
+            ExitCode::FAILURE
+        }
     }
-    done
 }
