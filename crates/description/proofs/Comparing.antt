@@ -1,6 +1,6 @@
 -- Two lists of good parts, each in front of a rest, that are the same bytes: one is the other, or a front of it, and then its rest begins with a good part.
 use Rattle.std.proofs.Common.{◌≡◌, ℕ, ◌<◌, ◌⊎◌, List, [], ◌∷◌, ◌++◌, length, sym, refl, ◌∙◌, subst, inl, inr, append_assoc, arith}
-use Rattle.std.specs.List.{flat_map, AllByRecursion as All}
+use Rattle.std.specs.List.{flat_map, AllByRecursion}
 use Rattle.description.specs.Faults.{Beyond}
 
 -- the bytes begin with a good part
@@ -28,7 +28,7 @@ module _ {V : Type 0} (bytes : V → List ℕ) (Fits Good : V → Type 0) (Early
   one_fault n m r (inl e) (inr q) = absurd (begun q.value q.more n (subst (λ (z : List ℕ). Early n z) q.begins e))
   one_fault n m r (inr o) (inl f) = absurd (begun o.value o.more m (subst (λ (z : List ℕ). Early m z) o.begins f))
 
-  pub compare : (xs ys : List V) (r s : List ℕ) → All Good xs → All Good ys → flat_map bytes xs ++ r ≡ flat_map bytes ys ++ s →
+  pub compare : (xs ys : List V) (r s : List ℕ) → AllByRecursion Good xs → AllByRecursion Good ys → flat_map bytes xs ++ r ≡ flat_map bytes ys ++ s →
       ((xs ≡ ys) × (r ≡ s)) ⊎ (((length xs < length ys) × Begun bytes Good r) ⊎ ((length ys < length xs) × Begun bytes Good s))
   compare [] [] r s gx gy e = inl (refl, e)
   compare [] (y ∷ ys) r s gx gy e =

@@ -1,6 +1,6 @@
 -- Parts of one kind, one after another.
 use Rattle.std.proofs.Common.{◌≡◌, ℕ, ◌+◌, ◌<◌, List, [], ◌∷◌, ◌++◌, length, IsErrAnd, Result, sym, refl, ap, ◌∙◌, subst, append-nil, arith, MatchResult}
-use Rattle.std.specs.List.{flat_map, AllByRecursion as All}
+use Rattle.std.specs.List.{flat_map, AllByRecursion}
 use Rattle.std.proofs.lemmas.List.{flat_map_more, length_push, nil_from_length}
 use Rattle.std.proofs.ByRecursion.{All-push}
 use Rattle.std.proofs.lemmas.Result.{err_from_is_err_and}
@@ -35,7 +35,7 @@ rows_more n xs ys x {r} {r'} {r''} so w p e =
     }
 
 -- the parts so far, and then a fault
-abbrev pub stop : {V : Type 0} (f : V → List ℕ) (Good : V → Type 0) (Fault : ℕ → List ℕ → Type 0) (xs : List V) {r r' : Reader} (e : ℕ × ℕ) → All Good xs → Passed r r' (flat_map f xs) → e.1 ≡ r'.at → Fault e.0 (left r') → Stopped f Good Fault r e
+abbrev pub stop : {V : Type 0} (f : V → List ℕ) (Good : V → Type 0) (Fault : ℕ → List ℕ → Type 0) (xs : List V) {r r' : Reader} (e : ℕ × ℕ) → AllByRecursion Good xs → Passed r r' (flat_map f xs) → e.1 ≡ r'.at → Fault e.0 (left r') → Stopped f Good Fault r e
 stop f Good Fault xs {r} {r'} e good p place fault =
     record { done = xs; rest = left r'; within = good; split = p.split; place = place ∙ p.next; fault = fault }
 
@@ -46,13 +46,13 @@ rows_stop n count xs e so lt place fault =
       fewer = omega (arith, so.count_is);
     }
 
-pub steps_more : (scheme : ℕ) (xs ys : List Step) (x : Step) {r r' r'' : Reader} → All (StepWithin scheme) xs × Passed r r' (flat_map step_bytes xs) → StepWithin scheme x → Passed r' r'' (step_bytes x) → ys ≡ xs ++ x ∷ [] → All (StepWithin scheme) ys × Passed r r'' (flat_map step_bytes ys)
+pub steps_more : (scheme : ℕ) (xs ys : List Step) (x : Step) {r r' r'' : Reader} → AllByRecursion (StepWithin scheme) xs × Passed r r' (flat_map step_bytes xs) → StepWithin scheme x → Passed r' r'' (step_bytes x) → ys ≡ xs ++ x ∷ [] → AllByRecursion (StepWithin scheme) ys × Passed r r'' (flat_map step_bytes ys)
 steps_more scheme xs ys x {r} {r'} {r''} so w p e =
-    subst (λ (z : List Step). All (StepWithin scheme) z × Passed r r'' (flat_map step_bytes z)) (sym e)
+    subst (λ (z : List Step). AllByRecursion (StepWithin scheme) z × Passed r r'' (flat_map step_bytes z)) (sym e)
     (All-push (StepWithin scheme) xs x so.0 w, pass_more step_bytes xs x so.1 p)
 
 -- nothing is left
-pub steps_all : (scheme : ℕ) (xs : List Step) {r r' : Reader} → All (StepWithin scheme) xs × Passed r r' (flat_map step_bytes xs) → length (left r') ≡ 0 → StepsRead scheme r xs
+pub steps_all : (scheme : ℕ) (xs : List Step) {r r' : Reader} → AllByRecursion (StepWithin scheme) xs × Passed r r' (flat_map step_bytes xs) → length (left r') ≡ 0 → StepsRead scheme r xs
 steps_all scheme xs {r} {r'} so none =
     let e : left r' ≡ [] = nil_from_length (left r') none in
     record {

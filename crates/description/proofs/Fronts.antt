@@ -1,12 +1,12 @@
 -- Values at the front of a list of bytes: any bytes that are enough are those of some value.
 use Rattle.std.proofs.Common.{◌≡◌, ℕ, zero, suc, ◌+◌, ◌*◌, ◌^◌, ◌<◌, ◌≤◌, List, [], ◌∷◌, ◌++◌, length, sym, refl, ap, ◌∙◌, append_assoc, add-one, arith, length-append}
-use Rattle.std.specs.List.{AllByRecursion as All}
+use Rattle.std.specs.List.{AllByRecursion}
 use Rattle.description.specs.Format.{be, head_bytes, row_bytes, window_bytes, range_bytes}
 use Rattle.description.specs.Bounds.{HeadFits, RowFits, WindowFits, RangeFits}
 use Rattle.description.proofs.Bytes.{length_be, be_push, fits_push}
 
 abbrev pub Bytes : List ℕ → Type 0
-Bytes bs = All (λ b. b < 256) bs
+Bytes bs = AllByRecursion (λ b. b < 256) bs
 
 -- a list, and two that it is made of
 pub record Split (bs part rest : List ℕ) : Type 0 where

@@ -1,6 +1,6 @@
 -- Every list of bytes has a reading.
 use Rattle.std.proofs.Common.{◌≡◌, ℕ, zero, suc, ◌<◌, ◌≤◌, ◌⊎◌, List, [], ◌∷◌, ◌++◌, length, sym, refl, ap, ◌∙◌, subst, inl, inr, append_assoc, append-nil, arith, length-append}
-use Rattle.std.specs.List.{flat_map, AllByRecursion as All}
+use Rattle.std.specs.List.{flat_map, AllByRecursion}
 use Rattle.std.proofs.lemmas.Bool.{cases_lt, cases_eq}
 use Rattle.description.specs.declared.head.Head.{Head}
 use Rattle.description.specs.declared.step.Step.TheVariants.{Window, Range, Balance}
@@ -67,7 +67,7 @@ tag_judged b bs all = elim (cases_eq b 6) [
 record Fronts {V : Type 0} (bytes : V → List ℕ) (Good : V → Type 0) (bs : List ℕ) : Type 0 where
   parts : List V
   rest : List ℕ
-  within : All Good parts
+  within : AllByRecursion Good parts
   split : bs ≡ flat_map bytes parts ++ rest
   are_bytes : Bytes rest
 

@@ -1,6 +1,6 @@
 -- The head, the rows and the steps, read one after another, make a reading of the whole input.
 use Rattle.std.proofs.Common.{◌≡◌, ℕ, ◌≤◌, ◌⊎◌, List, ◌++◌, length, drop, IsErrAnd, IfOk, vec_items, Result, sym, ap, ◌∙◌, subst, inl, inr, append_assoc, arith, length-append}
-use Rattle.std.specs.List.{flat_map, AllByRecursion as All}
+use Rattle.std.specs.List.{flat_map, AllByRecursion}
 use Rattle.std.proofs.ByRecursion.{All-weaker}
 use Rattle.std.proofs.lemmas.Result.{err_from_is_err_and}
 use Rattle.mesh.specs.declared.joint.Joint.{Joint}
@@ -108,7 +108,7 @@ module _ (bytes : List ℕ) (short : length bytes ≤ 8192) (r : Reader) (start 
         short = short;
         head = subst HeadWithin (sym same) within;
         rows = done.within;
-        steps = subst (λ (z : ℕ). All (StepWithin z) steps) (sym e) s.within;
+        steps = subst (λ (z : ℕ). AllByRecursion (StepWithin z) steps) (sym e) s.within;
         whole = before ∙ ap (λ (z : List ℕ). head_bytes h ++ flat_map row_bytes rows ++ z) s.split ∙
             ap (λ (z : Head). head_bytes z ++ flat_map row_bytes rows ++ flat_map step_bytes steps) (sym same);
       }

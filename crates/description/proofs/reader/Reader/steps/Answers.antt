@@ -1,5 +1,5 @@
 use Rattle.std.proofs.Common.{List, [], ◌∷◌, sym, refl, subst, inr, arith}
-use Rattle.std.specs.List.{flat_map, AllByRecursion as All}
+use Rattle.std.specs.List.{flat_map, AllByRecursion}
 use Rattle.std.proofs.lemmas.Slice.{pushed}
 use Rattle.description.specs.declared.step.Step.{Step}
 use Rattle.description.specs.Told.{told}
@@ -12,7 +12,7 @@ use Rattle.description.proofs.reader.Reader.steps.Goals as goal
 
 pub loop-self-init : goal.loop-self-init
 loop-self-init c =
-    subst (λ (z : List Step). All (StepWithin c.args.scheme) z × Passed c.args.self.now c.args.self.now (flat_map step_bytes z))
+    subst (λ (z : List Step). AllByRecursion (StepWithin c.args.scheme) z × Passed c.args.self.now c.args.self.now (flat_map step_bytes z))
     (sym c.new-steps.ensures.items) (tt, pass_none c.args.self.now)
 
 pub returns-in_err-step : goal.returns-in_err-step
