@@ -7,7 +7,6 @@ use Rattle.description.specs.declared.shape.Shape.{Shape}
 use Rattle.description.specs.declared.shape.Shape.TheVariants.{Line, Square, Triangle, Prism, Hexahedron}
 use Rattle.description.specs.declared.refusal.Refusal.{Refusal}
 use Rattle.description.specs.Format.{Contents, scheme_of}
-use Rattle.description.specs.Reading as reading
 use Rattle.description.specs.Reading.{Reads, granted, refused}
 use Rattle.description.specs.Told as reader
 use Rattle.description.proofs.Unique.{one_reading}

@@ -1,7 +1,6 @@
 -- Each fault's layer, number and place.
 use Rattle.std.specs.Prelude.{ℕ}
 use Rattle.description.specs.Told as reader
-use Rattle.mesh.specs.Faults as mesh
 use Rattle.forest.specs.Faults as planting
 use Rattle.forest.specs.declared.fault.PlantFault.{PlantFault}
 use Rattle.forest.specs.declared.fault.PlantFault.TheVariants as plant

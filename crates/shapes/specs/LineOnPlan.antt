@@ -1,5 +1,5 @@
 -- The line on the plan: corners shared across a face, and a child inside its parent's rectangle.
-use Rattle.std.specs.Prelude.{◌≡◌, ℕ, suc, ◌+◌, ◌-◌, ◌*◌, ◌^◌, ◌<◌, ◌≤◌, Some, refl}
+use Rattle.std.specs.Prelude.{◌≡◌, ℕ, suc, ◌+◌, ◌*◌, ◌^◌, ◌<◌, ◌≤◌, Some, refl}
 use Rattle.std.proofs.Common.{sym, ◌∙◌, arith, pow-suc, mul-le-mul_right}
 use Rattle.std.proofs.lemmas.Bool.Decides.{nat_tests}
 use Rattle.scheme.specs.declared.crossing.Crossing.TheVariants.{Inside}

@@ -1,5 +1,5 @@
 -- A lawful scheme is lawful with its faces' own numbers as sorts.
-use Rattle.std.specs.Prelude.{◌≡◌, ℕ, suc, ◌/◌, ◌^◌, ◌<◌, ◌≤◌, Bool, true, false, is_some as option_is_some, Some, None, Option, nat_lt, refl}
+use Rattle.std.specs.Prelude.{◌≡◌, ℕ, suc, ◌/◌, ◌^◌, ◌<◌, ◌≤◌, Bool, true, false, is_some, Some, None, Option, nat_lt, refl}
 use Rattle.std.proofs.Common.{◌∙◌, ap, arith}
 use Rattle.std.proofs.lemmas.Bool.{ltb-true, lt-ltb}
 use Rattle.scheme.specs.Alike.{crossed_alike, face_alike}
@@ -7,7 +7,7 @@ use Rattle.scheme.specs.Limiting.{given}
 use Rattle.scheme.specs.Scheme.{Model, k, h, Lawful, Bounded}
 use Rattle.trials.specs.Relabelling.{by_sort, relabelled}
 
-given_is : (b : Bool) (g : ℕ) → option_is_some (given b (Some g)) ≡ true → b ≡ true
+given_is : (b : Bool) (g : ℕ) → is_some (given b (Some g)) ≡ true → b ≡ true
 given_is true g e = refl
 given_is false g e = cc e
 
@@ -15,9 +15,9 @@ given_some : (b : Bool) (g s : ℕ) → given b (Some g) ≡ Some s → (b ≡ t
 given_some true g s e = (refl, cc e)
 given_some false g s e = (cc e, cc e)
 
-is_some : (o : Option ℕ) → option_is_some o ≡ true → (t : ℕ) × (o ≡ Some t)
-is_some (Some t) e = (t, refl)
-is_some None e = (0, cc e)
+some_inside : (o : Option ℕ) → is_some o ≡ true → (t : ℕ) × (o ≡ Some t)
+some_inside (Some t) e = (t, refl)
+some_inside None e = (0, cc e)
 
 module _ (m : Model) (ok : Lawful m) where
   own : (g : ℕ) → g < m.F → (relabelled m).sort g ≡ Some g
@@ -29,15 +29,15 @@ module _ (m : Model) (ok : Lawful m) where
       let z = given_some (nat_lt g m.F) g s e in
       let hg : g < m.F = ltb-true g m.F z.0 in
       let hs : s < m.F = omega (arith, hg, z.1) in
-      let t = is_some (m.sort s) (ok.bounded.sort_in s hs) in
+      let t = some_inside (m.sort s) (ok.bounded.sort_in s hs) in
       let w = ok.bounded.turn_in s t.0 l n t.1 hl hn in
       (w.0, ap (λ o. by_sort o (λ u. m.turned u l n)) t.1 ∙ w.1, w.2)
 
-  turn_out : (s l n : ℕ) (o : Option ℕ) → m.sort s ≡ o → option_is_some (by_sort o (λ t. m.turned t l n)) ≡ true →
+  turn_out : (s l n : ℕ) (o : Option ℕ) → m.sort s ≡ o → is_some (by_sort o (λ t. m.turned t l n)) ≡ true →
       ((g : ℕ) × ((relabelled m).sort g ≡ Some s)) × (l ≤ m.D) × (n < h m ^ l)
   turn_out s l n (Some t) e x =
       let w = ok.bounded.turn_out t l n x in
-      ((s, own s (ok.bounded.sort_out s (ap option_is_some e))), w.1, w.2)
+      ((s, own s (ok.bounded.sort_out s (ap is_some e))), w.1, w.2)
   turn_out s l n None e x = let z : ◌≡◌ {A = ℕ} 0 1 = cc x in ((s, cc x), omega arith, omega arith)
 
   undo : (o : Option ℕ) (l n n' : ℕ) → by_sort o (λ t. m.turned t l n) ≡ Some n' → by_sort o (λ t. m.turned t l n') ≡ Some n
@@ -62,7 +62,7 @@ module _ (m : Model) (ok : Lawful m) where
         edge_out = b.edge_out;
         child_in = λ l p f j hl hp hf hj. face_alike m (relabelled m) refl refl (k m) (m.face_child l p f j) (b.child_in l p f j hl hp hf hj);
         child_out = b.child_out;
-        sort_in = λ g hg. ap option_is_some (own g hg);
+        sort_in = λ g hg. ap is_some (own g hg);
         sort_out = λ g e. ltb-true g m.F (given_is (nat_lt g m.F) g e);
         turn_in = turn_in;
         turn_out = λ s l n e. turn_out s l n (m.sort s) refl e;

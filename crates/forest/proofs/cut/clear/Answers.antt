@@ -1,4 +1,4 @@
-use Rattle.std.proofs.Common.{◌≡◌, ◌-◌, length, replicate, sym, ap, ◌∙◌, arith}
+use Rattle.std.proofs.Common.{◌≡◌, length, replicate, sym, ap, ◌∙◌, arith}
 use Rattle.tiling.specs.Cells.{blank}
 use Rattle.forest.proofs.Overlaid.{front_long, front_rest, front_past}
 use Rattle.forest.proofs.cut.clear.Goals as goal
