@@ -1,6 +1,6 @@
 ghost use Rattle.std.specs.Prelude.{◌≡◌, [], ◌∷◌};
 ghost use Rattle.shapes.specs.Segment.{line as line_meaning, line_plan, line_corner, LineShares, LineFaceChildKeeps, LineExamples, AllEdgesBreakTheLaws};
-ghost use Rattle.std.proofs.Common.{arith};
+ghost use Rattle.std.proofs.Common.{lit≤};
 ghost use Rattle.shapes.specs.LineLaws.{line_lawful};
 ghost use Rattle.shapes.specs.LineOnPlan.{line_nested, line_flat, line_agrees};
 
@@ -32,7 +32,7 @@ impl Line {
 impl Scheme for Line {
     ghost meaning = { λ _. line_meaning 18 };
 
-    ghost lawful = { λ s. line_lawful 18 (omega arith) };
+    ghost lawful = { λ s. line_lawful 18 (lit≤ tt) };
 
     fn width(&self) -> u8 {
         WIDTH
@@ -121,7 +121,7 @@ impl Flat for Line {
 
     ghost plan = { λ _. line_plan 18 };
 
-    ghost nested = { λ s. line_nested 18 (omega arith) };
+    ghost nested = { λ s. line_nested 18 (lit≤ tt) };
 
     ghost flat = { λ s. line_flat 18 };
 

@@ -2,7 +2,7 @@ ghost use Rattle.std.specs.Prelude.{◌≡◌, ◌<◌, ◌≤◌};
 ghost use Rattle.scheme.specs.Plan.{outline_of};
 ghost use Rattle.models.specs.Moving.{square_opposite, square_number};
 ghost use Rattle.models.specs.Square.{square as square_meaning, square_plan, square_cell, square_place, square_x, square_y, square_rim, square_on_face, SquareBits, SquareUndoes, SquareThere, SquareShares, SquareFaceChildren};
-ghost use Rattle.std.proofs.Common.{arith};
+ghost use Rattle.std.proofs.Common.{lit≤};
 ghost use Rattle.models.proofs.SquareLaws.{square_lawful};
 ghost use Rattle.models.proofs.SquareOnPlan.{square_nested, square_flat, square_agrees};
 
@@ -132,7 +132,7 @@ impl Square {
 impl Scheme for Square {
     ghost meaning = { λ _. square_meaning 18 };
 
-    ghost lawful = { λ s. square_lawful 18 (omega arith) };
+    ghost lawful = { λ s. square_lawful 18 (lit≤ tt) };
 
     fn width(&self) -> u8 {
         WIDTH
@@ -201,7 +201,7 @@ impl Flat for Square {
 
     ghost plan = { λ _. square_plan 18 };
 
-    ghost nested = { λ s. square_nested 18 (omega arith) };
+    ghost nested = { λ s. square_nested 18 (lit≤ tt) };
 
     ghost flat = { λ s. square_flat 18 };
 

@@ -2,7 +2,7 @@ ghost use Rattle.std.specs.Prelude.{◌≡◌, ◌<◌, ◌≤◌, IfSome};
 ghost use Rattle.scheme.specs.Plan.{outline_of};
 ghost use Rattle.models.specs.Moving.{triangle_beyond, triangle_edge_number};
 ghost use Rattle.models.specs.Triangle.{triangle as triangle_meaning, triangle_plan, triangle_cell, triangle_place, triangle_step, triangle_rim, triangle_on_face, TriangleCell, TriangleOrder, TriangleUndoes, TriangleThere, TriangleShares, TriangleFaceChildren};
-ghost use Rattle.std.proofs.Common.{arith};
+ghost use Rattle.std.proofs.Common.{lit≤};
 ghost use Rattle.models.proofs.TriangleLaws.{triangle_lawful};
 ghost use Rattle.models.proofs.TriangleOnPlan.{triangle_nested, triangle_flat, triangle_agrees};
 
@@ -152,7 +152,7 @@ impl Triangle {
 impl Scheme for Triangle {
     ghost meaning = { λ _. triangle_meaning 18 };
 
-    ghost lawful = { λ s. triangle_lawful 18 (omega arith) };
+    ghost lawful = { λ s. triangle_lawful 18 (lit≤ tt) };
 
     fn width(&self) -> u8 {
         WIDTH
@@ -222,7 +222,7 @@ impl Flat for Triangle {
 
     ghost plan = { λ _. triangle_plan 18 };
 
-    ghost nested = { λ s. triangle_nested 18 (omega arith) };
+    ghost nested = { λ s. triangle_nested 18 (lit≤ tt) };
 
     ghost flat = { λ s. triangle_flat 18 };
 
