@@ -1,4 +1,4 @@
-ghost use Rattle.std.specs.Prelude.{◌≡◌, ◌*◌, ◌^◌, ◌≤◌, ◌&&◌, leb, if◌then◌else◌, nat_le};
+ghost use Rattle.std.specs.Prelude.{◌≡◌, ◌*◌, ◌^◌, ◌≤◌, ◌&&◌, if◌then◌else◌, nat_le};
 ghost use Rattle.scheme.specs.Plan.{side as side_of};
 
 /// The deepest level of the flat shapes.
@@ -23,7 +23,7 @@ fn length(sides: u64, level: u8) -> u32
 
 /// A length in cell sides of a level, in ticks, or 0 where a root is not so long or there is no such level.
 pub fn ticks(sides: u64, level: u8) -> u32
-    ensures { result ≡ (if leb level 18 && nat_le sides (2 ^ level) then sides * side_of level else 0) }
+    ensures { result ≡ (if nat_le level 18 && nat_le sides (2 ^ level) then sides * side_of level else 0) }
 {
     if level > DEPTH || sides > 1u64 << level {
         return 0;

@@ -1,4 +1,4 @@
-//! What the flat shapes share: the deepest level, lengths in ticks, how many cells there are, and turning an edge over.
+//! What squares and triangles share: the deepest level, lengths in ticks, how many cells there are, and turning an edge over.
 
 #![tactic(auto)]
 

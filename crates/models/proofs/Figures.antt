@@ -1,4 +1,4 @@
--- The figures of the plan hold, by computing.
+-- The figures of docs/RULES.md hold, by computing.
 use Rattle.std.proofs.Common.{refl}
 use Rattle.models.specs.Figures.{SquareFigures, TriangleFigures, PrismFigures, HexahedronFigures, Figures}
 use Rattle.models.specs.Square.{square_x, square_y, square_at}

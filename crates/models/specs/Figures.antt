@@ -1,4 +1,4 @@
--- The figures of the plan.
+-- The figures of docs/RULES.md.
 use Rattle.std.specs.Prelude.{◌≡◌, Some}
 use Rattle.scheme.specs.declared.crossing.Crossing.TheVariants.{Inside, Edge}
 use Rattle.shapes.specs.Segment.{line}

@@ -1,4 +1,4 @@
-//! What the shapes mean, and the proofs of their laws: line, square, triangle, and the product of two flat schemes.
+//! What squares, triangles and the product of two flat schemes mean, and the proofs of their laws; the line's stand in `shapes`.
 
 #![tactic(auto)]
 
@@ -8,7 +8,7 @@ ghost use Rattle.models.specs.Figures.{Figures};
 
 pub use anchor::Anchor;
 
-/// The figures of the plan hold of the models. No program need call it.
+/// The figures of docs/RULES.md hold of the models. No program need call it.
 pub fn figures_stand()
     ensures { Figures }
 {}
