@@ -1,7 +1,6 @@
 //! The cells of squares and triangles, to and from their coordinates.
-use crate::answer::Answer;
-use crate::asked::Asked;
-use crate::row::Row;
+use crate::asked::{Asked, all, some};
+use crate::row::{Row, print_row};
 use models::Anchor;
 use scheme::Scheme;
 use square::Square;
@@ -52,27 +51,30 @@ impl Anchored for Triangle {
 /// The coordinates of the cells.
 fn print_anchors<S: Anchored>(rt: &HostRuntime, shape: &S, asked: &Asked) -> anyhow::Result<()> {
     let level = asked.level;
-    let mut row = Row::new(rt.alloc(), level);
-    for place in asked.places.iter() {
-        row.add(Answer::cell(shape.anchor_of(level, *place)))?;
-    }
-    println!(rt; "cells {level}:{row}")?;
-    Ok(())
+    let places = asked.places.as_slice();
+    print_row(
+        rt,
+        format_args!("cells {level}"),
+        level,
+        places,
+        |row, place| { row.add(shape.anchor_of(level, place)) },
+    )
 }
 
 /// The places that the coordinates of the cells lead back to.
 fn print_back<S: Anchored>(rt: &HostRuntime, shape: &S, asked: &Asked) -> anyhow::Result<()> {
     let level = asked.level;
-    let mut row = Row::new(rt.alloc(), level);
-    for place in asked.places.iter() {
-        let back = match shape.anchor_of(level, *place) {
-            Some(anchor) => shape.place_of(level, anchor),
-            None => None,
-        };
-        row.add(Answer::number(back))?;
-    }
-    println!(rt; "back {level}:{row}")?;
-    Ok(())
+    let places = asked.places.as_slice();
+    print_row(
+        rt,
+        format_args!("back {level}"),
+        level,
+        places,
+        |row, place| {
+            let anchor = shape.anchor_of(level, place);
+            row.add(anchor.and_then(|anchor| shape.place_of(level, anchor)))
+        },
+    )
 }
 
 /// The places of the cells of each type on a grid of coordinates, and of one type more than there are.
@@ -87,7 +89,7 @@ fn print_places<S: Anchored>(
         for y in reach {
             for x in reach {
                 let anchor = Anchor { x: *x, y: *y, ty };
-                row.add(Answer::number(shape.place_of(level, anchor)))?;
+                row.add(shape.place_of(level, anchor))?;
             }
         }
         println!(rt; "places {level} {ty}:{row}")?;
@@ -97,11 +99,7 @@ fn print_places<S: Anchored>(
 
 /// The coordinates along a root's side at a level, and the first past it.
 fn reach_of(heap: Global, level: u8) -> Result<Vec<u32>, AllocError> {
-    let mut reach = Vec::new(heap);
-    for x in 0..=1u32.wrapping_shl(u32::from(level)) {
-        reach.push(x)?;
-    }
-    Ok(reach)
+    (0..=1u32.wrapping_shl(u32::from(level))).collect(heap)
 }
 
 /// The cells and places of small levels, of the deepest, and one past it.
@@ -112,12 +110,12 @@ pub(crate) fn print_cells<S: Anchored>(
 ) -> anyhow::Result<()> {
     println!(rt; "== cells of {name}")?;
     for level in 0..4u8 {
-        let asked = Asked::whole(rt.alloc(), shape, level)?;
+        let asked = Asked::by(rt.alloc(), shape, level, all)?;
         print_anchors(rt, shape, &asked)?;
         print_back(rt, shape, &asked)?;
     }
     for level in [18u8, 19] {
-        let asked = Asked::parts(rt.alloc(), shape, level)?;
+        let asked = Asked::by(rt.alloc(), shape, level, some)?;
         print_anchors(rt, shape, &asked)?;
         print_back(rt, shape, &asked)?;
     }

@@ -6,8 +6,6 @@ use std::fmt;
 /// An answer to a question of a scheme.
 #[derive(Clone, Copy)]
 pub(crate) enum Answer {
-    /// Printed `-`.
-    Nothing,
     /// A number alone, printed `7`.
     Number(u64),
     /// A place or a child number and a face of that cell, printed `7.1`.
@@ -20,60 +18,51 @@ pub(crate) enum Answer {
     Cell(Anchor),
 }
 
-impl Answer {
-    /// A place or an edge number.
-    pub(crate) fn number(answer: Option<u64>) -> Answer {
-        match answer {
-            Some(number) => Answer::Number(number),
-            None => Answer::Nothing,
-        }
+impl From<u64> for Answer {
+    fn from(number: u64) -> Answer {
+        Answer::Number(number)
     }
+}
 
-    /// The sort of a face.
-    pub(crate) fn sort(answer: Option<u8>) -> Answer {
-        match answer {
-            Some(sort) => Answer::Number(u64::from(sort)),
-            None => Answer::Nothing,
-        }
+impl From<u8> for Answer {
+    fn from(sort: u8) -> Answer {
+        Answer::Number(u64::from(sort))
     }
+}
 
-    /// A place and a face.
-    pub(crate) fn faced(answer: Option<(u64, u8)>) -> Answer {
-        match answer {
-            Some((place, face)) => Answer::Faced(place, face),
-            None => Answer::Nothing,
-        }
+impl From<(u64, u8)> for Answer {
+    fn from((place, face): (u64, u8)) -> Answer {
+        Answer::Faced(place, face)
     }
+}
 
-    /// A child number and a face of that child.
-    pub(crate) fn child(answer: Option<(u8, u8)>) -> Answer {
-        match answer {
-            Some((child, face)) => Answer::Faced(u64::from(child), face),
-            None => Answer::Nothing,
-        }
+impl From<(u8, u8)> for Answer {
+    fn from((child, face): (u8, u8)) -> Answer {
+        Answer::Faced(u64::from(child), face)
     }
+}
 
-    /// The coordinates of a cell.
-    pub(crate) fn cell(answer: Option<Anchor>) -> Answer {
-        match answer {
-            Some(anchor) => Answer::Cell(anchor),
-            None => Answer::Nothing,
-        }
+impl From<(u32, u32)> for Answer {
+    fn from((x, y): (u32, u32)) -> Answer {
+        Answer::Point(x, y)
     }
+}
 
-    /// What lies across a face.
-    pub(crate) fn across(answer: Option<Crossing>) -> Answer {
-        match answer {
-            Some(crossing) => Answer::Across(crossing),
-            None => Answer::Nothing,
-        }
+impl From<Anchor> for Answer {
+    fn from(anchor: Anchor) -> Answer {
+        Answer::Cell(anchor)
+    }
+}
+
+impl From<Crossing> for Answer {
+    fn from(crossing: Crossing) -> Answer {
+        Answer::Across(crossing)
     }
 }
 
 impl fmt::Display for Answer {
     fn fmt<W: fmt::Write>(&self, f: &mut fmt::Formatter<W>) -> fmt::Result {
         match *self {
-            Answer::Nothing => write!(f, "-"),
             Answer::Number(number) => write!(f, "{number}"),
             Answer::Faced(place, face) => write!(f, "{place}.{face}"),
             Answer::Across(Crossing::Inside((place, face))) => write!(f, "i{place}.{face}"),

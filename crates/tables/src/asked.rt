@@ -11,17 +11,13 @@ fn count(width: u8, level: u8) -> u64 {
 }
 
 /// All places with digits of a width at a level, and the first number past them.
-fn all(heap: Global, width: u8, level: u8) -> Result<Vec<u64>, AllocError> {
-    let mut places = Vec::new(heap);
-    for place in 0..=count(width, level) {
-        places.push(place)?;
-    }
-    Ok(places)
+pub(crate) fn all(heap: Global, width: u8, level: u8) -> Result<Vec<u64>, AllocError> {
+    (0..=count(width, level)).collect(heap)
 }
 
 /// Some places with digits of a width at a level: each digit followed by each repeated, which is where the longest
 /// carries and the corners are; eight that are well mixed; and the first number past all places.
-fn some(heap: Global, width: u8, level: u8) -> Result<Vec<u64>, AllocError> {
+pub(crate) fn some(heap: Global, width: u8, level: u8) -> Result<Vec<u64>, AllocError> {
     let digits = count(width, 1);
     let below = count(width, level.saturating_sub(1));
     let ones = below
@@ -29,21 +25,15 @@ fn some(heap: Global, width: u8, level: u8) -> Result<Vec<u64>, AllocError> {
         .checked_div(digits.wrapping_sub(1))
         .unwrap_or(0);
     let past = count(width, level);
-    let mut places = Vec::new(heap);
-    for first in 0..digits {
-        for rest in 0..digits {
-            places.push(
-                first
-                    .wrapping_mul(below)
-                    .wrapping_add(rest.wrapping_mul(ones)),
-            )?;
-        }
-    }
-    for number in 1..9u64 {
-        places.push(number.wrapping_mul(MIXER) & past.wrapping_sub(1))?;
-    }
-    places.push(past)?;
-    Ok(places)
+    let repeated = (0..digits).flat_map(|first| {
+        (0..digits).map(move |rest| {
+            first
+                .wrapping_mul(below)
+                .wrapping_add(rest.wrapping_mul(ones))
+        })
+    });
+    let mixed = (1..9u64).map(|number| number.wrapping_mul(MIXER) & past.wrapping_sub(1));
+    repeated.chain(mixed).chain([past]).collect(heap)
 }
 
 /// A level with the places and the edge numbers to ask about.
@@ -55,31 +45,20 @@ pub(crate) struct Asked {
 }
 
 impl Asked {
-    /// All of a level, and the first past the bounds.
-    pub(crate) fn whole<S: Scheme>(
+    /// What `choose` takes of a level of a scheme, and the first past the bounds.
+    pub(crate) fn by<S: Scheme, F: Fn(Global, u8, u8) -> Result<Vec<u64>, AllocError> + Drop>(
         heap: Global,
         scheme: &S,
         level: u8,
-    ) -> Result<Asked, AllocError> {
+        choose: F,
+    ) -> Result<Asked, AllocError>
+        requires { F.IsAlwaysCallable choose }
+    {
         let width = scheme.width();
         Ok(Asked {
             level,
-            places: all(heap, width, level)?,
-            numbers: all(heap, width - 1, level)?,
-        })
-    }
-
-    /// Some of a deep level, and the first past the bounds.
-    pub(crate) fn parts<S: Scheme>(
-        heap: Global,
-        scheme: &S,
-        level: u8,
-    ) -> Result<Asked, AllocError> {
-        let width = scheme.width();
-        Ok(Asked {
-            level,
-            places: some(heap, width, level)?,
-            numbers: some(heap, width - 1, level)?,
+            places: choose(heap, width, level)?,
+            numbers: choose(heap, width - 1, level)?,
         })
     }
 }

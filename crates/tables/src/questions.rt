@@ -1,18 +1,17 @@
 //! The five questions of a scheme, each at the places and edge numbers that are asked about, and one past each bound.
-use crate::answer::Answer;
-use crate::asked::Asked;
-use crate::row::Row;
+use crate::asked::{Asked, all, some};
+use crate::row::{Row, print_row};
 use scheme::Scheme;
 
 /// What lies across each face of each cell.
 fn print_across<S: Scheme>(rt: &HostRuntime, scheme: &S, asked: &Asked) -> anyhow::Result<()> {
     let level = asked.level;
+    let places = asked.places.as_slice();
     for face in 0..=scheme.faces() {
-        let mut row = Row::new(rt.alloc(), level);
-        for place in asked.places.iter() {
-            row.add(Answer::across(scheme.across(level, *place, face)))?;
-        }
-        println!(rt; "across {level} {face}:{row}")?;
+        let heading = format_args!("across {level} {face}");
+        print_row(rt, heading, level, places, |row, place| {
+            row.add(scheme.across(level, place, face))
+        })?;
     }
     Ok(())
 }
@@ -20,12 +19,12 @@ fn print_across<S: Scheme>(rt: &HostRuntime, scheme: &S, asked: &Asked) -> anyho
 /// What lies at each edge number of each root face.
 fn print_at_edge<S: Scheme>(rt: &HostRuntime, scheme: &S, asked: &Asked) -> anyhow::Result<()> {
     let level = asked.level;
+    let numbers = asked.numbers.as_slice();
     for face in 0..=scheme.faces() {
-        let mut row = Row::new(rt.alloc(), level);
-        for number in asked.numbers.iter() {
-            row.add(Answer::faced(scheme.at_edge(level, face, *number)))?;
-        }
-        println!(rt; "at edge {level} {face}:{row}")?;
+        let heading = format_args!("at edge {level} {face}");
+        print_row(rt, heading, level, numbers, |row, number| {
+            row.add(scheme.at_edge(level, face, number))
+        })?;
     }
     Ok(())
 }
@@ -37,15 +36,16 @@ fn print_face_children<S: Scheme>(
     asked: &Asked,
 ) -> anyhow::Result<()> {
     let level = asked.level;
+    let places = asked.places.as_slice();
     let children = 1u8.wrapping_shl(u32::from(scheme.width() - 1));
     for face in 0..=scheme.faces() {
-        let mut row = Row::new(rt.alloc(), level);
-        for place in asked.places.iter() {
+        let heading = format_args!("face children {level} {face}");
+        print_row(rt, heading, level, places, |row, place| {
             for number in 0..=children {
-                row.add(Answer::child(scheme.face_child(level, *place, face, number)))?;
+                row.add(scheme.face_child(level, place, face, number))?;
             }
-        }
-        println!(rt; "face children {level} {face}:{row}")?;
+            Ok(())
+        })?;
     }
     Ok(())
 }
@@ -53,12 +53,12 @@ fn print_face_children<S: Scheme>(
 /// Each edge number turned, by each sort that a shape has, and one more.
 fn print_turned<S: Scheme>(rt: &HostRuntime, scheme: &S, asked: &Asked) -> anyhow::Result<()> {
     let level = asked.level;
+    let numbers = asked.numbers.as_slice();
     for sort in 0..3u8 {
-        let mut row = Row::new(rt.alloc(), level);
-        for number in asked.numbers.iter() {
-            row.add(Answer::number(scheme.turned(sort, level, *number)))?;
-        }
-        println!(rt; "turned {level} {sort}:{row}")?;
+        let heading = format_args!("turned {level} {sort}");
+        print_row(rt, heading, level, numbers, |row, number| {
+            row.add(scheme.turned(sort, level, number))
+        })?;
     }
     Ok(())
 }
@@ -69,7 +69,7 @@ fn print_head<S: Scheme>(rt: &HostRuntime, name: &str, scheme: &S) -> anyhow::Re
     println!(rt; "== {name}: width {width} faces {faces} depth {depth}")?;
     let mut row = Row::new(rt.alloc(), 0);
     for face in 0..=faces {
-        row.add(Answer::sort(scheme.sort(face)))?;
+        row.add(scheme.sort(face))?;
     }
     println!(rt; "sorts:{row}")?;
     Ok(())
@@ -78,7 +78,7 @@ fn print_head<S: Scheme>(rt: &HostRuntime, name: &str, scheme: &S) -> anyhow::Re
 /// Questions far outside the bounds of every scheme.
 fn print_far<S: Scheme>(rt: &HostRuntime, scheme: &S) -> anyhow::Result<()> {
     let mut row = Row::new(rt.alloc(), 0);
-    row.add(Answer::sort(scheme.sort(u8::MAX)))?;
+    row.add(scheme.sort(u8::MAX))?;
     for (level, number, small) in [
         (u8::MAX, 0, 0),
         (0, u64::MAX, 0),
@@ -86,11 +86,11 @@ fn print_far<S: Scheme>(rt: &HostRuntime, scheme: &S) -> anyhow::Result<()> {
         (scheme.depth(), u64::MAX, 0),
         (u8::MAX, u64::MAX, u8::MAX),
     ] {
-        row.add(Answer::across(scheme.across(level, number, small)))?;
-        row.add(Answer::faced(scheme.at_edge(level, small, number)))?;
-        row.add(Answer::number(scheme.turned(small, level, number)))?;
-        row.add(Answer::child(scheme.face_child(level, number, small, 0)))?;
-        row.add(Answer::child(scheme.face_child(level, number, 0, small)))?;
+        row.add(scheme.across(level, number, small))?;
+        row.add(scheme.at_edge(level, small, number))?;
+        row.add(scheme.turned(small, level, number))?;
+        row.add(scheme.face_child(level, number, small, 0))?;
+        row.add(scheme.face_child(level, number, 0, small))?;
     }
     println!(rt; "far:{row}")?;
     Ok(())
@@ -113,7 +113,7 @@ pub(crate) fn print_whole<S: Scheme>(
 ) -> anyhow::Result<()> {
     print_head(rt, name, scheme)?;
     for level in 0..=levels {
-        let asked = Asked::whole(rt.alloc(), scheme, level)?;
+        let asked = Asked::by(rt.alloc(), scheme, level, all)?;
         print_asked(rt, scheme, &asked)?;
     }
     print_far(rt, scheme)
@@ -128,7 +128,7 @@ pub(crate) fn print_deep<S: Scheme>(
     print_head(rt, name, scheme)?;
     let depth = scheme.depth();
     for level in depth.saturating_sub(1)..=depth.saturating_add(1) {
-        let asked = Asked::parts(rt.alloc(), scheme, level)?;
+        let asked = Asked::by(rt.alloc(), scheme, level, some)?;
         print_asked(rt, scheme, &asked)?;
     }
     Ok(())

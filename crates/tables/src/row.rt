@@ -15,11 +15,9 @@ const FNV_PRIME: u64 = 0x0000_0100_0000_01b3;
 
 /// The check sum, the 64-bit FNV-1a: for each byte, the sum xor the byte, times the prime, modulo 2^64.
 fn check_sum(bytes: &[u8]) -> u64 {
-    let mut sum = FNV_START;
-    for byte in bytes {
-        sum = (sum ^ u64::from(*byte)).wrapping_mul(FNV_PRIME);
-    }
-    sum
+    bytes.iter().fold(FNV_START, |sum, byte| {
+        (sum ^ u64::from(*byte)).wrapping_mul(FNV_PRIME)
+    })
 }
 
 /// The answers of a level in the order of their questions, each after a blank.
@@ -37,9 +35,15 @@ impl Row {
         }
     }
 
-    /// Adds an answer at the end.
-    pub(crate) fn add(&mut self, answer: Answer) -> anyhow::Result<()> {
-        write!(self.text, " {answer}")?;
+    /// Adds an answer at the end, `-` where there is none.
+    pub(crate) fn add<A: Into<Answer> + Drop>(&mut self, answer: Option<A>) -> anyhow::Result<()> {
+        match answer {
+            Some(answer) => {
+                let answer: Answer = answer.into();
+                write!(self.text, " {answer}")?;
+            }
+            None => self.text.push_str(" -")?,
+        }
         Ok(())
     }
 }
@@ -54,4 +58,22 @@ impl fmt::Display for Row {
         let sum = check_sum(text.as_bytes());
         write!(f, " {length} bytes {sum:016x}")
     }
+}
+
+/// Prints a row after its heading: what `ask` adds for each of the items of a level.
+pub(crate) fn print_row<F: Fn(&mut Row, u64) -> anyhow::Result<()> + Drop>(
+    rt: &HostRuntime,
+    heading: impl fmt::Display + Drop,
+    level: u8,
+    items: &[u64],
+    ask: F,
+) -> anyhow::Result<()>
+    requires { F.IsAlwaysCallable ask }
+{
+    let mut row = Row::new(rt.alloc(), level);
+    for item in items {
+        ask(&mut row, *item)?;
+    }
+    println!(rt; "{heading}:{row}")?;
+    Ok(())
 }
