@@ -1,4 +1,4 @@
-ghost use Rattle.std.specs.Prelude.{◌≡◌, [], ◌∷◌};
+ghost use Rattle.std.specs.Prelude.{◌≡◌, [], ◌∷◌, refl};
 ghost use Rattle.shapes.specs.Segment.{line as line_meaning, line_plan, line_corner, LineShares, LineFaceChildKeeps, LineExamples, AllEdgesBreakTheLaws};
 ghost use Rattle.std.proofs.Common.{lit≤};
 ghost use Rattle.shapes.specs.LineLaws.{line_lawful};
@@ -118,6 +118,10 @@ fn ends(level: u8, place: u64) -> [(u32, u32); 4]
 
 impl Flat for Line {
     const CORNERS: usize = 2;
+
+    ghost CORNERS = { 2 };
+
+    ghost counted = { λ _. refl };
 
     ghost plan = { λ _. line_plan 18 };
 

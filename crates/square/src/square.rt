@@ -1,4 +1,4 @@
-ghost use Rattle.std.specs.Prelude.{◌≡◌, ◌<◌, ◌≤◌};
+ghost use Rattle.std.specs.Prelude.{◌≡◌, ◌<◌, ◌≤◌, refl};
 ghost use Rattle.scheme.specs.Plan.{outline_of};
 ghost use Rattle.models.specs.Moving.{square_opposite, square_number};
 ghost use Rattle.models.specs.Square.{square as square_meaning, square_plan, square_cell, square_place, square_x, square_y, square_rim, square_on_face, SquareBits, SquareUndoes, SquareThere, SquareShares, SquareFaceChildren};
@@ -198,6 +198,10 @@ fn corners(level: u8, place: u64) -> [(u32, u32); 4]
 
 impl Flat for Square {
     const CORNERS: usize = 4;
+
+    ghost CORNERS = { 4 };
+
+    ghost counted = { λ _. refl };
 
     ghost plan = { λ _. square_plan 18 };
 

@@ -1,4 +1,4 @@
-ghost use Rattle.std.specs.Prelude.{◌≡◌, ◌<◌, ◌≤◌, IfSome};
+ghost use Rattle.std.specs.Prelude.{◌≡◌, ◌<◌, ◌≤◌, IfSome, refl};
 ghost use Rattle.scheme.specs.Plan.{outline_of};
 ghost use Rattle.models.specs.Moving.{triangle_beyond, triangle_edge_number};
 ghost use Rattle.models.specs.Triangle.{triangle as triangle_meaning, triangle_plan, triangle_cell, triangle_place, triangle_step, triangle_rim, triangle_on_face, TriangleCell, TriangleOrder, TriangleUndoes, TriangleThere, TriangleShares, TriangleFaceChildren};
@@ -219,6 +219,10 @@ fn corners(level: u8, place: u64) -> [(u32, u32); 4]
 
 impl Flat for Triangle {
     const CORNERS: usize = 3;
+
+    ghost CORNERS = { 3 };
+
+    ghost counted = { λ _. refl };
 
     ghost plan = { λ _. triangle_plan 18 };
 
