@@ -1,4 +1,5 @@
 pub mod Told
+pub mod Words
 pub mod Format
 pub mod Bounds
 pub mod Faults
