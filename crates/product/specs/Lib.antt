@@ -1,3 +1,3 @@
 pub mod Cells
-pub mod Faces
+pub mod Carrying
 pub mod Parts

@@ -2,7 +2,7 @@
 
 #![tactic(auto)]
 
-mod crossed;
+mod carried;
 mod product;
 mod weaving;
 

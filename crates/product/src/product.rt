@@ -2,6 +2,7 @@ ghost use Rattle.models.specs.Product.{product as product_meaning};
 ghost use Rattle.product.specs.Cells.{CellsOf};
 ghost use Rattle.models.proofs.ProductLaws.{product_lawful};
 
+use crate::carried::carried;
 use crate::weaving::Weaving;
 use scheme::{Crossing, Flat, Scheme};
 
@@ -61,10 +62,22 @@ impl<A: Flat, B: Flat> Scheme for Product<A, B> {
         let faces = self.first.sides();
         if face < faces {
             let crossing = self.first.across(level, first, face)?;
-            Some(cells.cross_first(crossing, second))
+            let edges = cells.first_edges();
+            Some(carried(
+                crossing,
+                0,
+                |place| cells.weave(place, second),
+                |number| edges.weave(number, second),
+            ))
         } else {
             let crossing = self.second.across(level, second, face - faces)?;
-            Some(cells.cross_second(first, crossing, faces))
+            let edges = cells.second_edges();
+            Some(carried(
+                crossing,
+                faces,
+                |place| cells.weave(first, place),
+                |number| edges.weave(first, number),
+            ))
         }
     }
 
