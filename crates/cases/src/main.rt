@@ -5,19 +5,16 @@
 mod hex;
 
 use hex::decode;
-use listing::{Answer, respond};
+use listing::{Listing, Unlisted, respond};
 use std::alloc::{AllocError, Global};
 use std::fs;
 
 /// What the answer prints.
-fn text_of(heap: Global, answer: &Answer) -> Result<String, AllocError> {
+fn text_of(heap: Global, answer: &Result<Listing, Unlisted>) -> Result<String, AllocError> {
     match answer {
-        Answer::Listed(listing) => listing.text(heap),
-        Answer::Refused(fault) => fault.line(heap),
-        Answer::Wanting(wanting) => {
-            let sentence = wanting.sentence();
-            format!(in heap; "not yet: {sentence}\n")
-        }
+        Ok(listing) => listing.text(heap),
+        Err(Unlisted::Refused(fault)) => fault.line(heap),
+        Err(Unlisted::Wanting(what)) => format!(in heap; "not yet: {what}\n"),
     }
 }
 

@@ -10,12 +10,12 @@ unfolding leaf_lines
 lines_here xs i d h = ap (leaf_lines i) (drop-cons xs i d h) ∙ rw (add-one i)
 
 -- a text that is grown by the line i, and the lines after it
-pub lines_more : (text text' whole line : List ℕ) (xs : List Leaf) (i : ℕ) (d : Leaf) → i < length xs →
-    text ++ leaf_lines i (drop i xs) ≡ whole → text' ≡ text ++ line → line ≡ leaf_line i (get_or xs i d) →
+pub lines_more : (text text' whole : List ℕ) (xs : List Leaf) (i : ℕ) (d : Leaf) → i < length xs →
+    text ++ leaf_lines i (drop i xs) ≡ whole → text' ≡ text ++ leaf_line i (get_or xs i d) →
     text' ++ leaf_lines (i + 1) (drop (i + 1) xs) ≡ whole
-lines_more text text' whole line xs i d h inv grown is =
+lines_more text text' whole xs i d h inv grown =
     let rest = leaf_lines (i + 1) (drop (i + 1) xs) in
-    ap (λ t. t ++ rest) (grown ∙ ap (λ t. text ++ t) is) ∙ append_assoc text (leaf_line i (get_or xs i d)) rest ∙ ap (λ t. text ++ t) (sym (lines_here xs i d h)) ∙ inv
+    ap (λ t. t ++ rest) grown ∙ append_assoc text (leaf_line i (get_or xs i d)) rest ∙ ap (λ t. text ++ t) (sym (lines_here xs i d h)) ∙ inv
 
 -- past the last leaf the text is whole
 pub lines_end : (text whole : List ℕ) (xs : List Leaf) (i : ℕ) → length xs ≤ i → text ++ leaf_lines i (drop i xs) ≡ whole → text ≡ whole

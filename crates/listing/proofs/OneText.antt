@@ -1,11 +1,12 @@
 -- The bytes of a description determine what is printed, want of memory aside.
-use Rattle.std.proofs.Common.{◌≡◌, ℕ, List, [], ◌∷◌, ◌++◌, length, codes, sym, refl, ap, ◌∙◌, subst, inl, inr, arith}
+use Rattle.std.proofs.Common.{◌≡◌, ℕ, List, ◌++◌, length, codes, Ok, Err, sym, refl, ap, ◌∙◌, subst, inl, inr, arith}
 use Rattle.scheme.specs.Scheme.{Model}
 use Rattle.tiling.specs.declared.leaf.Leaf.{Leaf}
 use Rattle.tiling.specs.Positions.{evenly}
 use Rattle.description.specs.declared.shape.Shape.{Shape}
 use Rattle.description.specs.declared.shape.Shape.TheVariants.{Line, Square, Triangle, Prism, Hexahedron}
 use Rattle.description.specs.declared.refusal.Refusal.{Refusal}
+use Rattle.description.specs.Words.{shape_word}
 use Rattle.description.specs.Format.{Contents, scheme_of}
 use Rattle.description.specs.Reading.{Reads, granted, refused}
 use Rattle.description.specs.Told as reader
@@ -15,11 +16,10 @@ use Rattle.forest.specs.Planting.{leaves, Stopped}
 use Rattle.forest.proofs.OnePlanting.{not_both, one_stop}
 use Rattle.listing.specs.declared.fault.Fault.TheVariants.{Reader, Planting, NoMemory}
 use Rattle.listing.specs.declared.listing.Listing.{Listing}
-use Rattle.listing.specs.declared.answer.NotYet.TheVariants.{Shaped, Stepped}
-use Rattle.listing.specs.declared.answer.Answer.{Answer}
-use Rattle.listing.specs.declared.answer.Answer.TheVariants.{Listed, Refused, Wanting}
-use Rattle.listing.specs.Text.{shape_word, spaced, forest_line, leaf_lines, listing_text, fault_line}
-use Rattle.listing.specs.Answering.{Lists, StepsWanting, Planned, line_model, OfLines, OfAnother, Answers, printed, Certain, OneText}
+use Rattle.listing.specs.declared.unlisted.NotYet.TheVariants.{Shaped, Stepped}
+use Rattle.listing.specs.declared.unlisted.Unlisted.TheVariants.{Refused, Wanting}
+use Rattle.listing.specs.Text.{spaced, line_feed, forest_line, leaf_lines, listing_text, fault_line}
+use Rattle.listing.specs.Answering.{Lists, StepsWanting, Planned, line_model, OfLines, OfAnother, Answer, Answers, printed, Certain, OneText}
 
 -- the word of the shape with scheme number 1
 line_word : (s : Shape) → scheme_of s ≡ 1 → shape_word s ≡ codes "line"
@@ -57,28 +57,28 @@ module _ (m : Model) (c : Contents) where
   stepped_not e w s = not_both m c.roots c.joints c.level 1024 e s w.sound w.shallow w.room
 
   one_planned : (r r' : Answer) → c.scheme ≡ 1 → Planned m c r → Planned m c r' → Certain r → Certain r' → printed r ≡ printed r'
-  one_planned (Listed x) (Listed x') one p p' s s' = listed_text m c x one p ∙ sym (listed_text m c x' one p')
-  one_planned (Listed x) (Refused (Reader e)) one p p' s s' = absurd p'
-  one_planned (Listed x) (Refused (Planting e)) one p p' s s' = absurd (listed_not x e p p')
-  one_planned (Listed x) (Refused NoMemory) one p p' s s' = absurd (s' refl)
-  one_planned (Listed x) (Wanting (Shaped a)) one p p' s s' = absurd p'
-  one_planned (Listed x) (Wanting Stepped) one p p' s s' = absurd (p'.steps p.no_steps)
-  one_planned (Refused (Reader e)) r' one p p' s s' = absurd p
-  one_planned (Refused (Planting e)) (Listed x) one p p' s s' = absurd (listed_not x e p' p)
-  one_planned (Refused (Planting e)) (Refused (Reader e')) one p p' s s' = absurd p'
-  one_planned (Refused (Planting e)) (Refused (Planting e')) one p p' s s' =
+  one_planned (Ok x) (Ok x') one p p' s s' = listed_text m c x one p ∙ sym (listed_text m c x' one p')
+  one_planned (Ok x) (Err (Refused (Reader e))) one p p' s s' = absurd p'
+  one_planned (Ok x) (Err (Refused (Planting e))) one p p' s s' = absurd (listed_not x e p p')
+  one_planned (Ok x) (Err (Refused NoMemory)) one p p' s s' = absurd (s' refl)
+  one_planned (Ok x) (Err (Wanting (Shaped a))) one p p' s s' = absurd p'
+  one_planned (Ok x) (Err (Wanting Stepped)) one p p' s s' = absurd (p'.steps p.no_steps)
+  one_planned (Err (Refused (Reader e))) r' one p p' s s' = absurd p
+  one_planned (Err (Refused (Planting e))) (Ok x) one p p' s s' = absurd (listed_not x e p' p)
+  one_planned (Err (Refused (Planting e))) (Err (Refused (Reader e'))) one p p' s s' = absurd p'
+  one_planned (Err (Refused (Planting e))) (Err (Refused (Planting e'))) one p p' s s' =
       ap (λ f. fault_line (Planting f)) (one_stop m c.roots c.joints c.level 1024 e e' p p')
-  one_planned (Refused (Planting e)) (Refused NoMemory) one p p' s s' = absurd (s' refl)
-  one_planned (Refused (Planting e)) (Wanting (Shaped a)) one p p' s s' = absurd p'
-  one_planned (Refused (Planting e)) (Wanting Stepped) one p p' s s' = absurd (stepped_not e p' p)
-  one_planned (Refused NoMemory) r' one p p' s s' = absurd (s refl)
-  one_planned (Wanting (Shaped a)) r' one p p' s s' = absurd p
-  one_planned (Wanting Stepped) (Listed x) one p p' s s' = absurd (p.steps p'.no_steps)
-  one_planned (Wanting Stepped) (Refused (Reader e)) one p p' s s' = absurd p'
-  one_planned (Wanting Stepped) (Refused (Planting e)) one p p' s s' = absurd (stepped_not e p p')
-  one_planned (Wanting Stepped) (Refused NoMemory) one p p' s s' = absurd (s' refl)
-  one_planned (Wanting Stepped) (Wanting (Shaped a)) one p p' s s' = refl
-  one_planned (Wanting Stepped) (Wanting Stepped) one p p' s s' = refl
+  one_planned (Err (Refused (Planting e))) (Err (Refused NoMemory)) one p p' s s' = absurd (s' refl)
+  one_planned (Err (Refused (Planting e))) (Err (Wanting (Shaped a))) one p p' s s' = absurd p'
+  one_planned (Err (Refused (Planting e))) (Err (Wanting Stepped)) one p p' s s' = absurd (stepped_not e p' p)
+  one_planned (Err (Refused NoMemory)) r' one p p' s s' = absurd (s refl)
+  one_planned (Err (Wanting (Shaped a))) r' one p p' s s' = absurd p
+  one_planned (Err (Wanting Stepped)) (Ok x) one p p' s s' = absurd (p.steps p'.no_steps)
+  one_planned (Err (Wanting Stepped)) (Err (Refused (Reader e))) one p p' s s' = absurd p'
+  one_planned (Err (Wanting Stepped)) (Err (Refused (Planting e))) one p p' s s' = absurd (stepped_not e p p')
+  one_planned (Err (Wanting Stepped)) (Err (Refused NoMemory)) one p p' s s' = absurd (s' refl)
+  one_planned (Err (Wanting Stepped)) (Err (Wanting (Shaped a))) one p p' s s' = refl
+  one_planned (Err (Wanting Stepped)) (Err (Wanting Stepped)) one p p' s s' = refl
 
 module _ (bytes : List ℕ) where
   one_contents : (c c' : Contents) → Reads bytes (granted c) → Reads bytes (granted c') → c ≡ c'
@@ -90,19 +90,19 @@ module _ (bytes : List ℕ) where
       let z : ◌≡◌ {A = ℕ} 0 1 = cc e in omega arith
 
   -- a refusal of the reader that is not want of memory
-  reader_reads : (e : Refusal) → Answers bytes (Refused (Reader e)) → Certain (Refused (Reader e)) → Reads bytes (refused (reader.told e).0 (reader.told e).1)
+  reader_reads : (e : Refusal) → Answers bytes (Err (Refused (Reader e))) → Certain (Err (Refused (Reader e))) → Reads bytes (refused (reader.told e).0 (reader.told e).1)
   reader_reads e (inl none) s = absurd (s (ap (λ (t : ℕ × ℕ). t.0) none))
   reader_reads e (inr x) s = x
 
-  one_refused : (e e' : Refusal) → Answers bytes (Refused (Reader e)) → Answers bytes (Refused (Reader e')) →
-      Certain (Refused (Reader e)) → Certain (Refused (Reader e')) → printed (Refused (Reader e)) ≡ printed (Refused (Reader e'))
+  one_refused : (e e' : Refusal) → Answers bytes (Err (Refused (Reader e))) → Answers bytes (Err (Refused (Reader e'))) →
+      Certain (Err (Refused (Reader e))) → Certain (Err (Refused (Reader e'))) → printed (Err (Refused (Reader e))) ≡ printed (Err (Refused (Reader e')))
   one_refused e e' a a' s s' =
       let same : refused (reader.told e).0 (reader.told e).1 ≡ refused (reader.told e').0 (reader.told e').1 =
       one_reading bytes _ _ (reader_reads e a s) (reader_reads e' a' s') in
       let n : (reader.told e).0 ≡ (reader.told e').0 = cc same in
       let at : (reader.told e).1 ≡ (reader.told e').1 = cc same in
-      ap (λ i. codes "E " ++ (codes "reader" ++ (spaced i ++ (spaced (reader.told e).1 ++ (10 ∷ []))))) n ∙
-      ap (λ i. codes "E " ++ (codes "reader" ++ (spaced (reader.told e').0 ++ (spaced i ++ (10 ∷ []))))) at
+      ap (λ i. (codes "E " ++ (codes "reader" ++ (spaced i ++ spaced (reader.told e).1))) ++ line_feed) n ∙
+      ap (λ i. (codes "E " ++ (codes "reader" ++ (spaced (reader.told e').0 ++ spaced i))) ++ line_feed) at
 
   one_of_lines : (r r' : Answer) → OfLines bytes r → OfLines bytes r' → Certain r → Certain r' → printed r ≡ printed r'
   one_of_lines r r' a a' s s' =
@@ -117,32 +117,32 @@ module _ (bytes : List ℕ) where
       o.other (sym o.scheme ∙ ap (λ c. c.scheme) (sym same) ∙ a.scheme)
 
 pub one_text : OneText
-one_text bytes (Refused (Reader e)) (Refused (Reader e')) a a' s s' = one_refused bytes e e' a a' s s'
-one_text bytes (Refused (Reader e)) (Listed x) a a' s s' = absurd (granted_not bytes _ _ _ a'.reads (reader_reads bytes e a s))
-one_text bytes (Refused (Reader e)) (Refused (Planting f)) a a' s s' = absurd (granted_not bytes _ _ _ a'.reads (reader_reads bytes e a s))
-one_text bytes (Refused (Reader e)) (Refused NoMemory) a a' s s' = absurd (s' refl)
-one_text bytes (Refused (Reader e)) (Wanting (Shaped w)) a a' s s' = absurd (granted_not bytes _ _ _ a'.reads (reader_reads bytes e a s))
-one_text bytes (Refused (Reader e)) (Wanting Stepped) a a' s s' = absurd (granted_not bytes _ _ _ a'.reads (reader_reads bytes e a s))
-one_text bytes (Refused NoMemory) r' a a' s s' = absurd (s refl)
-one_text bytes (Wanting (Shaped w)) (Refused (Reader e)) a a' s s' = absurd (granted_not bytes _ _ _ a.reads (reader_reads bytes e a' s'))
-one_text bytes (Wanting (Shaped w)) (Refused NoMemory) a a' s s' = absurd (s' refl)
-one_text bytes (Wanting (Shaped w)) (Wanting w') a a' s s' = refl
-one_text bytes (Wanting (Shaped w)) (Listed x) a a' s s' = absurd (lines_not bytes (Listed x) _ a' a)
-one_text bytes (Wanting (Shaped w)) (Refused (Planting e)) a a' s s' = absurd (lines_not bytes (Refused (Planting e)) _ a' a)
-one_text bytes (Listed x) (Refused (Reader e)) a a' s s' = absurd (granted_not bytes _ _ _ a.reads (reader_reads bytes e a' s'))
-one_text bytes (Listed x) (Refused NoMemory) a a' s s' = absurd (s' refl)
-one_text bytes (Listed x) (Wanting (Shaped w)) a a' s s' = absurd (lines_not bytes (Listed x) _ a a')
-one_text bytes (Listed x) (Listed x') a a' s s' = one_of_lines bytes (Listed x) (Listed x') a a' s s'
-one_text bytes (Listed x) (Refused (Planting e)) a a' s s' = one_of_lines bytes (Listed x) (Refused (Planting e)) a a' s s'
-one_text bytes (Listed x) (Wanting Stepped) a a' s s' = one_of_lines bytes (Listed x) (Wanting Stepped) a a' s s'
-one_text bytes (Refused (Planting f)) (Refused (Reader e)) a a' s s' = absurd (granted_not bytes _ _ _ a.reads (reader_reads bytes e a' s'))
-one_text bytes (Refused (Planting f)) (Refused NoMemory) a a' s s' = absurd (s' refl)
-one_text bytes (Refused (Planting f)) (Wanting (Shaped w)) a a' s s' = absurd (lines_not bytes (Refused (Planting f)) _ a a')
-one_text bytes (Refused (Planting f)) (Listed x) a a' s s' = one_of_lines bytes (Refused (Planting f)) (Listed x) a a' s s'
-one_text bytes (Refused (Planting f)) (Refused (Planting e)) a a' s s' = one_of_lines bytes (Refused (Planting f)) (Refused (Planting e)) a a' s s'
-one_text bytes (Refused (Planting f)) (Wanting Stepped) a a' s s' = one_of_lines bytes (Refused (Planting f)) (Wanting Stepped) a a' s s'
-one_text bytes (Wanting Stepped) (Refused (Reader e)) a a' s s' = absurd (granted_not bytes _ _ _ a.reads (reader_reads bytes e a' s'))
-one_text bytes (Wanting Stepped) (Refused NoMemory) a a' s s' = absurd (s' refl)
-one_text bytes (Wanting Stepped) (Wanting w) a a' s s' = refl
-one_text bytes (Wanting Stepped) (Listed x) a a' s s' = one_of_lines bytes (Wanting Stepped) (Listed x) a a' s s'
-one_text bytes (Wanting Stepped) (Refused (Planting f)) a a' s s' = one_of_lines bytes (Wanting Stepped) (Refused (Planting f)) a a' s s'
+one_text bytes (Err (Refused (Reader e))) (Err (Refused (Reader e'))) a a' s s' = one_refused bytes e e' a a' s s'
+one_text bytes (Err (Refused (Reader e))) (Ok x) a a' s s' = absurd (granted_not bytes _ _ _ a'.reads (reader_reads bytes e a s))
+one_text bytes (Err (Refused (Reader e))) (Err (Refused (Planting f))) a a' s s' = absurd (granted_not bytes _ _ _ a'.reads (reader_reads bytes e a s))
+one_text bytes (Err (Refused (Reader e))) (Err (Refused NoMemory)) a a' s s' = absurd (s' refl)
+one_text bytes (Err (Refused (Reader e))) (Err (Wanting (Shaped w))) a a' s s' = absurd (granted_not bytes _ _ _ a'.reads (reader_reads bytes e a s))
+one_text bytes (Err (Refused (Reader e))) (Err (Wanting Stepped)) a a' s s' = absurd (granted_not bytes _ _ _ a'.reads (reader_reads bytes e a s))
+one_text bytes (Err (Refused NoMemory)) r' a a' s s' = absurd (s refl)
+one_text bytes (Err (Wanting (Shaped w))) (Err (Refused (Reader e))) a a' s s' = absurd (granted_not bytes _ _ _ a.reads (reader_reads bytes e a' s'))
+one_text bytes (Err (Wanting (Shaped w))) (Err (Refused NoMemory)) a a' s s' = absurd (s' refl)
+one_text bytes (Err (Wanting (Shaped w))) (Err (Wanting w')) a a' s s' = refl
+one_text bytes (Err (Wanting (Shaped w))) (Ok x) a a' s s' = absurd (lines_not bytes (Ok x) _ a' a)
+one_text bytes (Err (Wanting (Shaped w))) (Err (Refused (Planting e))) a a' s s' = absurd (lines_not bytes (Err (Refused (Planting e))) _ a' a)
+one_text bytes (Ok x) (Err (Refused (Reader e))) a a' s s' = absurd (granted_not bytes _ _ _ a.reads (reader_reads bytes e a' s'))
+one_text bytes (Ok x) (Err (Refused NoMemory)) a a' s s' = absurd (s' refl)
+one_text bytes (Ok x) (Err (Wanting (Shaped w))) a a' s s' = absurd (lines_not bytes (Ok x) _ a a')
+one_text bytes (Ok x) (Ok x') a a' s s' = one_of_lines bytes (Ok x) (Ok x') a a' s s'
+one_text bytes (Ok x) (Err (Refused (Planting e))) a a' s s' = one_of_lines bytes (Ok x) (Err (Refused (Planting e))) a a' s s'
+one_text bytes (Ok x) (Err (Wanting Stepped)) a a' s s' = one_of_lines bytes (Ok x) (Err (Wanting Stepped)) a a' s s'
+one_text bytes (Err (Refused (Planting f))) (Err (Refused (Reader e))) a a' s s' = absurd (granted_not bytes _ _ _ a.reads (reader_reads bytes e a' s'))
+one_text bytes (Err (Refused (Planting f))) (Err (Refused NoMemory)) a a' s s' = absurd (s' refl)
+one_text bytes (Err (Refused (Planting f))) (Err (Wanting (Shaped w))) a a' s s' = absurd (lines_not bytes (Err (Refused (Planting f))) _ a a')
+one_text bytes (Err (Refused (Planting f))) (Ok x) a a' s s' = one_of_lines bytes (Err (Refused (Planting f))) (Ok x) a a' s s'
+one_text bytes (Err (Refused (Planting f))) (Err (Refused (Planting e))) a a' s s' = one_of_lines bytes (Err (Refused (Planting f))) (Err (Refused (Planting e))) a a' s s'
+one_text bytes (Err (Refused (Planting f))) (Err (Wanting Stepped)) a a' s s' = one_of_lines bytes (Err (Refused (Planting f))) (Err (Wanting Stepped)) a a' s s'
+one_text bytes (Err (Wanting Stepped)) (Err (Refused (Reader e))) a a' s s' = absurd (granted_not bytes _ _ _ a.reads (reader_reads bytes e a' s'))
+one_text bytes (Err (Wanting Stepped)) (Err (Refused NoMemory)) a a' s s' = absurd (s' refl)
+one_text bytes (Err (Wanting Stepped)) (Err (Wanting w)) a a' s s' = refl
+one_text bytes (Err (Wanting Stepped)) (Ok x) a a' s s' = one_of_lines bytes (Err (Wanting Stepped)) (Ok x) a a' s s'
+one_text bytes (Err (Wanting Stepped)) (Err (Refused (Planting f))) a a' s s' = one_of_lines bytes (Err (Wanting Stepped)) (Err (Refused (Planting f))) a a' s s'

@@ -1,11 +1,11 @@
 -- What planting in 1,024 records answers, for the listing.
-use Rattle.std.proofs.Common.{◌≡◌, ℕ, suc, min, List, [], ◌∷◌, length, Ok, Err, vec_items, Result, refl, ap, subst, arith}
+use Rattle.std.proofs.Common.{◌≡◌, ℕ, min, List, length, Err, vec_items, Result, ap, subst}
 use Rattle.scheme.specs.Scheme.{Model}
 use Rattle.mesh.specs.declared.mesh.Mesh.{Mesh}
 use Rattle.tiling.specs.declared.leaf.Leaf.{Leaf}
 use Rattle.forest.specs.declared.forest.Forest.{Forest}
 use Rattle.forest.specs.declared.fault.PlantFault.{PlantFault}
-use Rattle.forest.specs.Planting.{counted, Planted, Stopped, Grown, Answers}
+use Rattle.forest.specs.Planting.{counted, Planted, Stopped, Answers}
 
 module _ (m : Model) (mesh : Mesh) (l : ℕ) (records : List Leaf) (f : Forest) (r : Result ℕ PlantFault) where
   answered : Planted m mesh l records f r → length records ≡ 1024 → Answers m mesh.roots (vec_items mesh.joints) l 1024 f r
@@ -15,13 +15,3 @@ module _ (m : Model) (mesh : Mesh) (l : ℕ) (records : List Leaf) (f : Forest) 
 
   pub stopped : (e : PlantFault) → Planted m mesh l records f r → r ≡ Err e → length records ≡ 1024 → Stopped m mesh.roots (vec_items mesh.joints) l 1024 e
   stopped e p is long = (subst (Answers m mesh.roots (vec_items mesh.joints) l 1024 f) is (answered p long)).why
-
-  pub grown : (n : ℕ) → Planted m mesh l records f r → r ≡ Ok n → length records ≡ 1024 → Grown m mesh.roots (vec_items mesh.joints) l 1024 f n
-  grown n p is long = subst (Answers m mesh.roots (vec_items mesh.joints) l 1024 f) is (answered p long)
-
-pub empty : {X : Type 0} (xs : List X) → length xs ≡ 0 → xs ≡ []
-empty [] e = refl
-empty (x ∷ xs) e = absurd (omega arith)
-
-pub not_empty : {X : Type 0} (xs : List X) (n : ℕ) → length xs ≡ suc n → xs ≡ [] → ⊥
-not_empty xs n e is = omega (arith, ap length is)

@@ -1,5 +1,5 @@
 -- What is answered to the bytes of a description.
-use Rattle.std.specs.Prelude.{◌≡◌, ℕ, ◌*◌, ◌^◌, ◌≤◌, List, [], Err, vec_items}
+use Rattle.std.specs.Prelude.{◌≡◌, ℕ, ◌*◌, ◌^◌, ◌≤◌, List, [], Ok, Err, Result, vec_items}
 use Rattle.scheme.specs.Scheme.{Model, k}
 use Rattle.scheme.specs.Limiting.{limited}
 use Rattle.shapes.specs.Segment.{line}
@@ -11,9 +11,13 @@ use Rattle.listing.specs.declared.fault.Fault.TheVariants.{Reader, Planting, NoM
 use Rattle.listing.specs.declared.listing.Listing.{Listing}
 use Rattle.listing.specs.Told.{told}
 use Rattle.listing.specs.Text.{listing_text, fault_line}
-use Rattle.listing.specs.declared.answer.NotYet.TheVariants.{Shaped, Stepped}
-use Rattle.listing.specs.declared.answer.Answer.{Answer}
-use Rattle.listing.specs.declared.answer.Answer.TheVariants.{Listed, Refused, Wanting}
+use Rattle.listing.specs.declared.unlisted.NotYet.TheVariants.{Shaped, Stepped}
+use Rattle.listing.specs.declared.unlisted.Unlisted.{Unlisted}
+use Rattle.listing.specs.declared.unlisted.Unlisted.TheVariants.{Refused, Wanting}
+
+-- a listing, or why there is none
+abbrev pub Answer : Type 0
+Answer = Result Listing Unlisted
 
 -- the listing holds the forest that the description plants in 1,024 records, and there is no step
 pub record Lists (m : Model) (c : Contents) (x : Listing) : Type 0 where
@@ -34,12 +38,12 @@ pub record StepsWanting (m : Model) (c : Contents) : Type 0 where
 
 -- what a description with these contents, over a scheme that means m, is answered; want of memory says nothing of it
 abbrev pub Planned : Model → Contents → Answer → Type 0
-Planned m c (Listed x) = Lists m c x
-Planned m c (Refused (Reader e)) = ⊥
-Planned m c (Refused (Planting e)) = Stopped m c.roots c.joints c.level 1024 e
-Planned m c (Refused NoMemory) = Unit {0}
-Planned m c (Wanting (Shaped s)) = ⊥
-Planned m c (Wanting Stepped) = StepsWanting m c
+Planned m c (Ok x) = Lists m c x
+Planned m c (Err (Refused (Reader e))) = ⊥
+Planned m c (Err (Refused (Planting e))) = Stopped m c.roots c.joints c.level 1024 e
+Planned m c (Err (Refused NoMemory)) = Unit {0}
+Planned m c (Err (Wanting (Shaped s))) = ⊥
+Planned m c (Err (Wanting Stepped)) = StepsWanting m c
 
 -- a line, under the description's depth limit
 abbrev pub line_model : Contents → Model
@@ -60,24 +64,24 @@ pub record OfAnother (bytes : List ℕ) (number : ℕ) : Type 0 where
   pub other : number ≡ 1 → ⊥
 
 abbrev pub Answers : List ℕ → Answer → Type 0
-Answers bytes (Refused (Reader e)) = reader.Answered bytes (Err e)
-Answers bytes (Refused NoMemory) = Unit {0}
-Answers bytes (Wanting (Shaped s)) = OfAnother bytes (scheme_of s)
-Answers bytes (Listed x) = OfLines bytes (Listed x)
-Answers bytes (Refused (Planting e)) = OfLines bytes (Refused (Planting e))
-Answers bytes (Wanting Stepped) = OfLines bytes (Wanting Stepped)
+Answers bytes (Err (Refused (Reader e))) = reader.Answered bytes (Err e)
+Answers bytes (Err (Refused NoMemory)) = Unit {0}
+Answers bytes (Err (Wanting (Shaped s))) = OfAnother bytes (scheme_of s)
+Answers bytes (Ok x) = OfLines bytes (Ok x)
+Answers bytes (Err (Refused (Planting e))) = OfLines bytes (Err (Refused (Planting e)))
+Answers bytes (Err (Wanting Stepped)) = OfLines bytes (Err (Wanting Stepped))
 
 -- what an answer prints
 abbrev pub printed : Answer → List ℕ
-printed (Listed x) = listing_text x
-printed (Refused f) = fault_line f
-printed (Wanting w) = []
+printed (Ok x) = listing_text x
+printed (Err (Refused f)) = fault_line f
+printed (Err (Wanting w)) = []
 
 -- an answer that tells no want of memory
 abbrev pub Certain : Answer → Type 0
-Certain (Listed x) = Unit {0}
-Certain (Refused f) = (told f).1 ≡ 17 → ⊥
-Certain (Wanting w) = Unit {0}
+Certain (Ok x) = Unit {0}
+Certain (Err (Refused f)) = (told f).1 ≡ 17 → ⊥
+Certain (Err (Wanting w)) = Unit {0}
 
 -- the bytes determine what is printed
 abbrev pub OneText : Type 0

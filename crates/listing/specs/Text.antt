@@ -1,21 +1,13 @@
 -- The text of a listing and of a fault.
 use Rattle.std.specs.Prelude.{ℕ, suc, List, [], ◌∷◌, ◌++◌, length, codes, decimal}
 use Rattle.tiling.specs.declared.leaf.Leaf.{Leaf}
-use Rattle.description.specs.declared.shape.Shape.{Shape}
-use Rattle.description.specs.declared.shape.Shape.TheVariants.{Line, Square, Triangle, Prism, Hexahedron}
+use Rattle.description.specs.Words.{shape_word}
 use Rattle.forest.specs.Planting.{leaves}
 use Rattle.listing.specs.declared.fault.Layer.{Layer}
 use Rattle.listing.specs.declared.fault.Layer.TheVariants.{Reader, Mesh, Forest}
 use Rattle.listing.specs.declared.fault.Fault.{Fault}
 use Rattle.listing.specs.declared.listing.Listing.{Listing}
 use Rattle.listing.specs.Told.{told}
-
-abbrev pub shape_word : Shape → List ℕ
-shape_word Line = codes "line"
-shape_word Square = codes "square"
-shape_word Triangle = codes "triangle"
-shape_word Prism = codes "prism"
-shape_word Hexahedron = codes "hexahedron"
 
 abbrev pub layer_word : Layer → List ℕ
 layer_word Reader = codes "reader"
@@ -44,8 +36,11 @@ leaf_lines i [] = []
 leaf_lines i (c ∷ cs) = leaf_line i c ++ leaf_lines (suc i) cs
 
 -- "E layer number at"
+abbrev pub fault_words : Fault → List ℕ
+fault_words f = codes "E " ++ (layer_word (told f).0 ++ (spaced (told f).1 ++ spaced (told f).2))
+
 abbrev pub fault_line : Fault → List ℕ
-fault_line f = codes "E " ++ (layer_word (told f).0 ++ (spaced (told f).1 ++ (spaced (told f).2 ++ line_feed)))
+fault_line f = fault_words f ++ line_feed
 
 abbrev pub listing_text : Listing → List ℕ
 listing_text x =

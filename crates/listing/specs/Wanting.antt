@@ -1,7 +1,7 @@
 -- What is said of what the program does not do yet.
 use Rattle.std.specs.Prelude.{ℕ, List, codes}
-use Rattle.listing.specs.declared.answer.NotYet.{NotYet}
-use Rattle.listing.specs.declared.answer.NotYet.TheVariants.{Shaped, Stepped}
+use Rattle.listing.specs.declared.unlisted.NotYet.{NotYet}
+use Rattle.listing.specs.declared.unlisted.NotYet.TheVariants.{Shaped, Stepped}
 
 abbrev pub wanting_text : NotYet → List ℕ
 wanting_text (Shaped s) = codes "this version serves the line shape only, and the description has another shape"

@@ -1,8 +1,10 @@
-ghost use Rattle.std.specs.Prelude.{◌≡◌};
+ghost use Rattle.std.specs.Prelude.{◌≡◌, Some};
 ghost use Rattle.listing.specs.Told.{told};
+ghost use Rattle.listing.specs.Text.{layer_word, fault_words};
 
 use description::Refusal;
 use forest::PlantFault;
+use std::fmt;
 
 /// Where a fault is found.
 #[derive(Clone, Copy, PartialEq, Eq, Debug)]
@@ -10,6 +12,19 @@ pub enum Layer {
     Reader,
     Mesh,
     Forest,
+}
+
+/// The word for a layer.
+impl fmt::Display for Layer {
+    ghost output = { λ layer. Some (layer_word layer) };
+
+    fn fmt<W: fmt::Write>(&self, f: &mut fmt::Formatter<W>) -> fmt::Result {
+        f.write_str(match self {
+            Layer::Reader => "reader",
+            Layer::Mesh => "mesh",
+            Layer::Forest => "forest",
+        })
+    }
 }
 
 /// Why there is no listing.
@@ -57,5 +72,17 @@ impl Fault {
             Fault::Planting(fault) => fault.at(),
             Fault::NoMemory => 0,
         }
+    }
+}
+
+/// What its line says.
+impl fmt::Display for Fault {
+    ghost output = { λ fault. Some (fault_words fault) };
+
+    fn fmt<W: fmt::Write>(&self, f: &mut fmt::Formatter<W>) -> fmt::Result {
+        let layer = self.layer();
+        let number = self.number();
+        let at = self.at();
+        write!(f, "E {layer} {number} {at}")
     }
 }

@@ -2,13 +2,13 @@
 
 #![tactic(auto)]
 
-mod answer;
 mod fault;
 mod listing;
 mod planning;
 mod text;
+mod unlisted;
 
-pub use answer::{Answer, NotYet};
 pub use fault::{Fault, Layer};
 pub use listing::Listing;
 pub use planning::respond;
+pub use unlisted::{NotYet, Unlisted};

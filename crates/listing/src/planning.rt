@@ -1,9 +1,8 @@
 ghost use Rattle.description.specs.Format.{contents};
 ghost use Rattle.listing.specs.Answering.{Planned, Answers, OneText};
 
-use crate::answer::{Answer, NotYet};
-use crate::fault::Fault;
 use crate::listing::Listing;
+use crate::unlisted::{NotYet, Unlisted};
 use description::{Description, Shape, read};
 use forest::Forest;
 use mesh::Mesh;
@@ -16,7 +15,11 @@ use tiling::Leaf;
 const RECORDS: usize = 1024;
 
 /// Plants the description's mesh over a scheme, to be listed.
-fn plant_and_list<S: Scheme>(heap: Global, scheme: &S, description: Description) -> Answer
+fn plant_and_list<S: Scheme>(
+    heap: Global,
+    scheme: &S,
+    description: Description,
+) -> Result<Listing, Unlisted>
     ensures { Planned (S.Scheme.meaning scheme.now) (contents description) result }
 {
     let Description {
@@ -27,17 +30,13 @@ fn plant_and_list<S: Scheme>(heap: Global, scheme: &S, description: Description)
         joints,
         steps,
     } = description;
-    let Ok(memory) = vec![in heap; Leaf::BLANK; RECORDS] else {
-        return Answer::Refused(Fault::NoMemory);
-    };
+    let memory = vec![in heap; Leaf::BLANK; RECORDS]?;
     let (forest, planted) = Forest::plant(scheme, Mesh { roots, joints }, level, memory);
-    if let Err(fault) = planted {
-        return Answer::Refused(Fault::Planting(fault));
+    planted?;
+    if !steps.is_empty() {
+        return Err(NotYet::Stepped.into());
     }
-    if steps.len() > 0 {
-        return Answer::Wanting(NotYet::Stepped);
-    }
-    Answer::Listed(Listing {
+    Ok(Listing {
         shape,
         forest,
         splits: 0,
@@ -46,13 +45,10 @@ fn plant_and_list<S: Scheme>(heap: Global, scheme: &S, description: Description)
 }
 
 /// Reads the bytes, and plants by the shape that they name.
-fn read_and_plant(heap: Global, bytes: &[u8]) -> Answer
+fn read_and_plant(heap: Global, bytes: &[u8]) -> Result<Listing, Unlisted>
     ensures { Answers bytes.now result }
 {
-    let description = match read(heap, bytes) {
-        Ok(description) => description,
-        Err(refusal) => return Answer::Refused(Fault::Reader(refusal)),
-    };
+    let description = read(heap, bytes)?;
     let limit = description.limit;
     match description.shape {
         Shape::Line => plant_and_list(
@@ -63,14 +59,14 @@ fn read_and_plant(heap: Global, bytes: &[u8]) -> Answer
             },
             description,
         ),
-        shape => Answer::Wanting(NotYet::Shaped(shape)),
+        shape => Err(NotYet::Shaped(shape).into()),
     }
 }
 
 /// Answers the bytes of a description: the listing of its forest, or why there is none.
 ///
 /// Want of memory aside, the bytes determine what is printed.
-pub fn respond(heap: Global, bytes: &[u8]) -> Answer
+pub fn respond(heap: Global, bytes: &[u8]) -> Result<Listing, Unlisted>
     ensures answers { Answers bytes.now result }
     ensures one { OneText }
 {

@@ -3,7 +3,7 @@
 #![tactic(auto)]
 
 use anyhow::bail;
-use listing::{Answer, respond};
+use listing::{Unlisted, respond};
 use std::alloc::Global;
 use std::io::Read;
 use std::process::ExitCode;
@@ -30,9 +30,9 @@ fn input(rt: &HostRuntime) -> anyhow::Result<Vec<u8>> {
 fn run(rt: &HostRuntime) -> anyhow::Result<()> {
     let bytes = input(rt)?;
     let text = match respond(rt.alloc(), bytes.as_slice()) {
-        Answer::Listed(listing) => listing.text(rt.alloc())?,
-        Answer::Refused(fault) => fault.line(rt.alloc())?,
-        Answer::Wanting(what) => bail!("{}", what.sentence()),
+        Ok(listing) => listing.text(rt.alloc())?,
+        Err(Unlisted::Refused(fault)) => fault.line(rt.alloc())?,
+        Err(Unlisted::Wanting(what)) => bail!("{what}"),
     };
     rt.print(text)?;
     Ok(())

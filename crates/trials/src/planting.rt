@@ -29,12 +29,7 @@ fn apart(heap: Global, roots: u16) -> Mesh {
 
 /// Is every record this one?
 fn are_all(records: &[Leaf], leaf: Leaf) -> bool {
-    for record in records {
-        if *record != leaf {
-            return false;
-        }
-    }
-    true
+    records.iter().all(|record| *record == leaf)
 }
 
 /// Plants lines without joints at a level, on so many records, none of them blank, and checks what

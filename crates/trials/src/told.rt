@@ -1,7 +1,7 @@
 //! What faults tell, and what is printed.
 use description::Refusal;
 use forest::PlantFault;
-use listing::{Answer, Fault, Layer, respond};
+use listing::{Fault, Layer, Unlisted, respond};
 use mesh::MeshFault;
 use std::process::Abort;
 use std::test::Fail;
@@ -64,13 +64,13 @@ const TWO_LINES: [u8; 14] = [1, 0, 2, 1, 2, 0, 1, 0, 0, 1, 0, 1, 0, 0];
 
 #[test]
 fn a_description_is_listed_or_refused(rt: HostRuntime) -> Result<(), Fail> {
-    let Answer::Listed(listing) = respond(rt.alloc(), &TWO_LINES) else {
+    let Ok(listing) = respond(rt.alloc(), &TWO_LINES) else {
         return Err(Fail::new("it is not listed"));
     };
     let text = listing.text(rt.alloc())?;
     let lines = "F line 2 4 0 0\nL 0 0 1 0\nL 1 0 1 1\nL 2 1 1 0\nL 3 1 1 1\n";
     assert_eq!(rt; text.as_str(), lines);
-    let Answer::Refused(fault) = respond(rt.alloc(), &TWO_LINES[0..13]) else {
+    let Err(Unlisted::Refused(fault)) = respond(rt.alloc(), &TWO_LINES[0..13]) else {
         return Err(Fail::new("it is not refused"));
     };
     assert!(rt; matches!(fault.layer(), Layer::Reader));
