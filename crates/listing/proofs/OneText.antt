@@ -1,11 +1,10 @@
 -- The bytes of a description determine what is printed, want of memory aside.
-use Rattle.std.proofs.Common.{◌≡◌, ℕ, List, ◌++◌, length, codes, Ok, Err, sym, refl, ap, ◌∙◌, subst, inl, inr, arith}
+use Rattle.std.proofs.Common.{◌≡◌, ℕ, ◌⊎◌, List, [], ◌++◌, length, codes, Ok, Err, sym, refl, ap, ◌∙◌, subst, inl, inr, arith}
 use Rattle.scheme.specs.Scheme.{Model}
 use Rattle.tiling.specs.declared.leaf.Leaf.{Leaf}
 use Rattle.tiling.specs.Positions.{evenly}
 use Rattle.description.specs.declared.shape.Shape.{Shape}
 use Rattle.description.specs.declared.shape.Shape.TheVariants.{Line, Square, Triangle, Prism, Hexahedron}
-use Rattle.description.specs.declared.refusal.Refusal.{Refusal}
 use Rattle.description.specs.Words.{shape_word}
 use Rattle.description.specs.Format.{Contents, scheme_of}
 use Rattle.description.specs.Reading.{Reads, granted, refused}
@@ -80,69 +79,77 @@ module _ (m : Model) (c : Contents) where
   one_planned (Err (Wanting Stepped)) (Err (Wanting (Shaped a))) one p p' s s' = refl
   one_planned (Err (Wanting Stepped)) (Err (Wanting Stepped)) one p p' s s' = refl
 
+-- the line of a refusal of the reader
+reader_line : ℕ → ℕ → List ℕ
+reader_line number place = (codes "E " ++ (codes "reader" ++ (spaced number ++ spaced place))) ++ line_feed
+
 module _ (bytes : List ℕ) where
+  -- the bytes are those of a description of another shape, and nothing is printed
+  record Elsewhere (r : Answer) : Type 0 where
+    pub number : ℕ
+    pub other : OfAnother bytes number
+    pub prints : printed r ≡ []
+
+  -- the bytes are those of no description, and what is printed tells why
+  record Damaged (r : Answer) : Type 0 where
+    pub number : ℕ
+    pub place : ℕ
+    pub reads : Reads bytes (refused number place)
+    pub prints : printed r ≡ reader_line number place
+
+  Kinds : Answer → Type 0
+  Kinds r = OfLines bytes r ⊎ (Elsewhere r ⊎ Damaged r)
+
+  -- an answer that tells no want of memory is to a description of lines, of another shape, or to bytes that are none
+  certain : (r : Answer) → Answers bytes r → Certain r → Kinds r
+  unfolding Kinds reader_line
+  certain (Ok x) a y = inl a
+  certain (Err (Refused (Reader e))) (inl none) y = absurd (y (ap (λ (t : ℕ × ℕ). t.0) none))
+  certain (Err (Refused (Reader e))) (inr reads) y =
+      inr (inr (record { number = (reader.told e).0; place = (reader.told e).1; reads = reads; prints = refl }))
+  certain (Err (Refused (Planting e))) a y = inl a
+  certain (Err (Refused NoMemory)) a y = absurd (y refl)
+  certain (Err (Wanting (Shaped s))) a y = inr (inl (record { number = scheme_of s; other = a; prints = refl }))
+  certain (Err (Wanting Stepped)) a y = inl a
+
+  granted_not : (c : Contents) (number place : ℕ) → Reads bytes (granted c) → Reads bytes (refused number place) → ⊥
+  granted_not c number place x y =
+      let e : granted c ≡ refused number place = one_reading bytes (granted c) (refused number place) x y in
+      let z : ◌≡◌ {A = ℕ} 0 1 = cc e in omega arith
+
   one_contents : (c c' : Contents) → Reads bytes (granted c) → Reads bytes (granted c') → c ≡ c'
   one_contents c c' x y = let e : granted c ≡ granted c' = one_reading bytes (granted c) (granted c') x y in cc e
 
-  granted_not : (c : Contents) (n at : ℕ) → Reads bytes (granted c) → Reads bytes (refused n at) → ⊥
-  granted_not c n at x y =
-      let e : granted c ≡ refused n at = one_reading bytes (granted c) (refused n at) x y in
-      let z : ◌≡◌ {A = ℕ} 0 1 = cc e in omega arith
-
-  -- a refusal of the reader that is not want of memory
-  reader_reads : (e : Refusal) → Answers bytes (Err (Refused (Reader e))) → Certain (Err (Refused (Reader e))) → Reads bytes (refused (reader.told e).0 (reader.told e).1)
-  reader_reads e (inl none) s = absurd (s (ap (λ (t : ℕ × ℕ). t.0) none))
-  reader_reads e (inr x) s = x
-
-  one_refused : (e e' : Refusal) → Answers bytes (Err (Refused (Reader e))) → Answers bytes (Err (Refused (Reader e'))) →
-      Certain (Err (Refused (Reader e))) → Certain (Err (Refused (Reader e'))) → printed (Err (Refused (Reader e))) ≡ printed (Err (Refused (Reader e')))
-  one_refused e e' a a' s s' =
-      let same : refused (reader.told e).0 (reader.told e).1 ≡ refused (reader.told e').0 (reader.told e').1 =
-      one_reading bytes _ _ (reader_reads e a s) (reader_reads e' a' s') in
-      let n : (reader.told e).0 ≡ (reader.told e').0 = cc same in
-      let at : (reader.told e).1 ≡ (reader.told e').1 = cc same in
-      ap (λ i. (codes "E " ++ (codes "reader" ++ (spaced i ++ spaced (reader.told e).1))) ++ line_feed) n ∙
-      ap (λ i. (codes "E " ++ (codes "reader" ++ (spaced (reader.told e').0 ++ spaced i))) ++ line_feed) at
+  one_damaged : (r r' : Answer) → Damaged r → Damaged r' → printed r ≡ printed r'
+  one_damaged r r' a a' =
+      let same : refused a.number a.place ≡ refused a'.number a'.place = one_reading bytes _ _ a.reads a'.reads in
+      let number : a.number ≡ a'.number = cc same in
+      let place : a.place ≡ a'.place = cc same in
+      a.prints ∙ ap (λ n. reader_line n a.place) number ∙ ap (reader_line a'.number) place ∙ sym a'.prints
 
   one_of_lines : (r r' : Answer) → OfLines bytes r → OfLines bytes r' → Certain r → Certain r' → printed r ≡ printed r'
-  one_of_lines r r' a a' s s' =
+  one_of_lines r r' a a' y y' =
       let same = one_contents a.what a'.what a.reads a'.reads in
       let p' : Planned (line_model a.what) a.what r' = subst (λ c. Planned (line_model c) c r') (sym same) a'.planned in
-      one_planned (line_model a.what) a.what r r' a.scheme a.planned p' s s'
+      one_planned (line_model a.what) a.what r r' a.scheme a.planned p' y y'
 
   -- lines are of no other shape
-  lines_not : (r : Answer) (n : ℕ) → OfLines bytes r → OfAnother bytes n → ⊥
-  lines_not r n a o =
+  lines_not : (r : Answer) (number : ℕ) → OfLines bytes r → OfAnother bytes number → ⊥
+  lines_not r number a o =
       let same = one_contents a.what o.what a.reads o.reads in
       o.other (sym o.scheme ∙ ap (λ c. c.scheme) (sym same) ∙ a.scheme)
 
+  one_certain : (r r' : Answer) → Kinds r → Kinds r' → Certain r → Certain r' → printed r ≡ printed r'
+  unfolding Kinds
+  one_certain r r' (inl a) (inl a') y y' = one_of_lines r r' a a' y y'
+  one_certain r r' (inl a) (inr (inl o)) y y' = absurd (lines_not r o.number a o.other)
+  one_certain r r' (inl a) (inr (inr d)) y y' = absurd (granted_not a.what d.number d.place a.reads d.reads)
+  one_certain r r' (inr (inl o)) (inl a) y y' = absurd (lines_not r' o.number a o.other)
+  one_certain r r' (inr (inl o)) (inr (inl o')) y y' = o.prints ∙ sym o'.prints
+  one_certain r r' (inr (inl o)) (inr (inr d)) y y' = absurd (granted_not o.other.what d.number d.place o.other.reads d.reads)
+  one_certain r r' (inr (inr d)) (inl a) y y' = absurd (granted_not a.what d.number d.place a.reads d.reads)
+  one_certain r r' (inr (inr d)) (inr (inl o)) y y' = absurd (granted_not o.other.what d.number d.place o.other.reads d.reads)
+  one_certain r r' (inr (inr d)) (inr (inr d')) y y' = one_damaged r r' d d'
+
 pub one_text : OneText
-one_text bytes (Err (Refused (Reader e))) (Err (Refused (Reader e'))) a a' s s' = one_refused bytes e e' a a' s s'
-one_text bytes (Err (Refused (Reader e))) (Ok x) a a' s s' = absurd (granted_not bytes _ _ _ a'.reads (reader_reads bytes e a s))
-one_text bytes (Err (Refused (Reader e))) (Err (Refused (Planting f))) a a' s s' = absurd (granted_not bytes _ _ _ a'.reads (reader_reads bytes e a s))
-one_text bytes (Err (Refused (Reader e))) (Err (Refused NoMemory)) a a' s s' = absurd (s' refl)
-one_text bytes (Err (Refused (Reader e))) (Err (Wanting (Shaped w))) a a' s s' = absurd (granted_not bytes _ _ _ a'.reads (reader_reads bytes e a s))
-one_text bytes (Err (Refused (Reader e))) (Err (Wanting Stepped)) a a' s s' = absurd (granted_not bytes _ _ _ a'.reads (reader_reads bytes e a s))
-one_text bytes (Err (Refused NoMemory)) r' a a' s s' = absurd (s refl)
-one_text bytes (Err (Wanting (Shaped w))) (Err (Refused (Reader e))) a a' s s' = absurd (granted_not bytes _ _ _ a.reads (reader_reads bytes e a' s'))
-one_text bytes (Err (Wanting (Shaped w))) (Err (Refused NoMemory)) a a' s s' = absurd (s' refl)
-one_text bytes (Err (Wanting (Shaped w))) (Err (Wanting w')) a a' s s' = refl
-one_text bytes (Err (Wanting (Shaped w))) (Ok x) a a' s s' = absurd (lines_not bytes (Ok x) _ a' a)
-one_text bytes (Err (Wanting (Shaped w))) (Err (Refused (Planting e))) a a' s s' = absurd (lines_not bytes (Err (Refused (Planting e))) _ a' a)
-one_text bytes (Ok x) (Err (Refused (Reader e))) a a' s s' = absurd (granted_not bytes _ _ _ a.reads (reader_reads bytes e a' s'))
-one_text bytes (Ok x) (Err (Refused NoMemory)) a a' s s' = absurd (s' refl)
-one_text bytes (Ok x) (Err (Wanting (Shaped w))) a a' s s' = absurd (lines_not bytes (Ok x) _ a a')
-one_text bytes (Ok x) (Ok x') a a' s s' = one_of_lines bytes (Ok x) (Ok x') a a' s s'
-one_text bytes (Ok x) (Err (Refused (Planting e))) a a' s s' = one_of_lines bytes (Ok x) (Err (Refused (Planting e))) a a' s s'
-one_text bytes (Ok x) (Err (Wanting Stepped)) a a' s s' = one_of_lines bytes (Ok x) (Err (Wanting Stepped)) a a' s s'
-one_text bytes (Err (Refused (Planting f))) (Err (Refused (Reader e))) a a' s s' = absurd (granted_not bytes _ _ _ a.reads (reader_reads bytes e a' s'))
-one_text bytes (Err (Refused (Planting f))) (Err (Refused NoMemory)) a a' s s' = absurd (s' refl)
-one_text bytes (Err (Refused (Planting f))) (Err (Wanting (Shaped w))) a a' s s' = absurd (lines_not bytes (Err (Refused (Planting f))) _ a a')
-one_text bytes (Err (Refused (Planting f))) (Ok x) a a' s s' = one_of_lines bytes (Err (Refused (Planting f))) (Ok x) a a' s s'
-one_text bytes (Err (Refused (Planting f))) (Err (Refused (Planting e))) a a' s s' = one_of_lines bytes (Err (Refused (Planting f))) (Err (Refused (Planting e))) a a' s s'
-one_text bytes (Err (Refused (Planting f))) (Err (Wanting Stepped)) a a' s s' = one_of_lines bytes (Err (Refused (Planting f))) (Err (Wanting Stepped)) a a' s s'
-one_text bytes (Err (Wanting Stepped)) (Err (Refused (Reader e))) a a' s s' = absurd (granted_not bytes _ _ _ a.reads (reader_reads bytes e a' s'))
-one_text bytes (Err (Wanting Stepped)) (Err (Refused NoMemory)) a a' s s' = absurd (s' refl)
-one_text bytes (Err (Wanting Stepped)) (Err (Wanting w)) a a' s s' = refl
-one_text bytes (Err (Wanting Stepped)) (Ok x) a a' s s' = one_of_lines bytes (Err (Wanting Stepped)) (Ok x) a a' s s'
-one_text bytes (Err (Wanting Stepped)) (Err (Refused (Planting f))) a a' s s' = one_of_lines bytes (Err (Wanting Stepped)) (Err (Refused (Planting f))) a a' s s'
+one_text bytes r r' a a' y y' = one_certain bytes r r' (certain bytes r a y) (certain bytes r' a' y') y y'
