@@ -14,50 +14,50 @@ use anchors::print_cells;
 use plans::print_plan;
 use product::{Hexahedron, Prism, Product};
 use questions::{print_deep, print_whole};
-use scheme::{Limit, Scheme};
+use scheme::{Flat, Limit, Scheme};
 use shapes::Line;
 use square::Square;
 use triangle::Triangle;
 
-/// The flat shapes.
-fn print_flats(rt: &HostRuntime) -> anyhow::Result<()> {
-    let (line, square, triangle) = (Line::new(), Square::new(), Triangle::new());
-    print_whole(rt, "line", &line, 3)?;
-    print_deep(rt, "line", &line)?;
-    print_plan(rt, "line", &line, 3)?;
-    print_whole(rt, "square", &square, 3)?;
-    print_deep(rt, "square", &square)?;
-    print_plan(rt, "square", &square, 3)?;
-    print_cells(rt, "square", &square)?;
-    print_whole(rt, "triangle", &triangle, 3)?;
-    print_deep(rt, "triangle", &triangle)?;
-    print_plan(rt, "triangle", &triangle, 3)?;
-    print_cells(rt, "triangle", &triangle)
-}
-
-/// All answers of a product down to a level, and some at its deepest.
-fn print_product<S: Scheme>(
+/// All answers of a scheme down to a level, and some at its deepest.
+fn print_scheme<S: Scheme>(
     rt: &HostRuntime,
     name: &str,
-    product: &S,
+    scheme: &S,
     levels: u8,
 ) -> anyhow::Result<()> {
-    print_whole(rt, name, product, levels)?;
-    print_deep(rt, name, product)
+    print_whole(rt, name, scheme, levels)?;
+    print_deep(rt, name, scheme)
+}
+
+/// The same of a flat scheme, with its cells on the plan.
+fn print_flat<S: Flat>(rt: &HostRuntime, name: &str, flat: &S, levels: u8) -> anyhow::Result<()> {
+    print_scheme(rt, name, flat, levels)?;
+    print_plan(rt, name, flat, levels)
+}
+
+/// The flat shapes.
+fn print_flats(rt: &HostRuntime) -> anyhow::Result<()> {
+    let (square, triangle) = (Square::new(), Triangle::new());
+    print_flat(rt, "line", &Line::new(), 3)?;
+    print_flat(rt, "square", &square, 3)?;
+    print_cells(rt, "square", &square)?;
+    print_flat(rt, "triangle", &triangle, 3)?;
+    print_cells(rt, "triangle", &triangle)
 }
 
 /// Products of two flat shapes.
 fn print_products(rt: &HostRuntime) -> anyhow::Result<()> {
     let (line, square, triangle) = (Line::new(), Square::new(), Triangle::new());
     let prism: Prism = times(triangle, line);
-    print_product(rt, "prism", &prism, 3)?;
+    print_scheme(rt, "prism", &prism, 3)?;
     let hexahedron: Hexahedron = times(square, line);
-    print_product(rt, "hexahedron", &hexahedron, 3)?;
-    print_product(rt, "line by line", &times(line, line), 2)?;
-    print_product(rt, "line by square", &times(line, square), 2)?;
-    print_product(rt, "square by square", &times(square, square), 2)?;
+    print_scheme(rt, "hexahedron", &hexahedron, 3)?;
+    print_scheme(rt, "line by line", &times(line, line), 2)?;
+    print_scheme(rt, "line by square", &times(line, square), 2)?;
+    print_scheme(rt, "square by square", &times(square, square), 2)?;
     let two_triangles = times(triangle, triangle);
-    print_product(rt, "triangle by triangle", &two_triangles, 2)
+    print_scheme(rt, "triangle by triangle", &two_triangles, 2)
 }
 
 /// Depth limits over flat shapes, with a level past each.
