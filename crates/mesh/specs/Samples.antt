@@ -1,5 +1,5 @@
 -- The definitions tried on a few small meshes.
-use Rattle.std.specs.Prelude.{ℕ, ◌-◌, ◌^◌, cond, List, [], ◌∷◌, Some, None, Ok, Err, nat_lt}
+use Rattle.std.specs.Prelude.{ℕ, ◌-◌, ◌^◌, if◌then◌else◌, List, [], ◌∷◌, Some, None, Ok, Err, nat_lt}
 use Rattle.mesh.specs.declared.joint.Joint.{Joint}
 use Rattle.mesh.specs.declared.fault.MeshFault.TheVariants.{Counts, Absent, SortsDiffer, Taken}
 use Rattle.mesh.specs.Checking.{Verdict}
@@ -16,7 +16,7 @@ five = record {
   across = λ l p f. None;
   at_edge = λ l g n. None;
   face_child = λ l p f j. None;
-  sort = λ g. cond (nat_lt g 5) (Some (cond (nat_lt g 3) 0 1)) None;
+  sort = λ g. if nat_lt g 5 then Some (if nat_lt g 3 then 0 else 1) else None;
   turned = λ s l n. Some (2 ^ l - 1 - n);
 }
 

@@ -1,91 +1,89 @@
-ghost use Rattle.std.specs.Prelude.{◌≡◌, suc, ◌<◌, length, Decides, MatchResult};
+ghost use Rattle.std.specs.Prelude.{◌≡◌, suc, ◌<◌, ◌↔◌, length, IsTrue, MatchResult};
 ghost use Rattle.mesh.specs.Faults.{told};
-ghost use Rattle.mesh.specs.Joints.{CountsIn, Absent, Differ, Before, Taken, Sound};
+ghost use Rattle.mesh.specs.Joints.{row, CountsIn, Absent, Differ, Before, Taken, Sound};
 ghost use Rattle.mesh.specs.Checking.{Verdict, Faulty};
 
-use crate::ends::first_row;
+use crate::ends::RootFace;
 use crate::fault::MeshFault;
 use crate::joint::Joint;
+use crate::mesh::Mesh;
 use scheme::Scheme;
 
-/// Are there 1 to 256 roots, and at most 1,024 rows?
-pub(crate) fn counts_hold(roots: u16, joints: &[Joint]) -> bool
-    ensures { Decides result (CountsIn roots joints.now) }
-{
-    1 <= roots && roots <= 256 && joints.len() <= 1024
-}
-
-/// Is a root, a face or the turn of the row absent?
-fn is_absent<S: Scheme>(scheme: &S, roots: u16, joint: &Joint) -> bool
-    ensures { Decides result (Absent (S.Scheme.meaning scheme.now) roots joint.now) }
-{
-    let faces = scheme.faces();
-    joint.root >= roots
-        || joint.other_root >= roots
-        || joint.face >= faces
-        || joint.other_face >= faces
-        || joint.turn > 1
-}
-
-/// Do the sorts of the row's two faces differ?
-fn sorts_differ<S: Scheme>(scheme: &S, joint: &Joint) -> bool
-    ensures { Decides result (Differ (S.Scheme.meaning scheme.now) joint.now) }
-{
-    scheme.sort(joint.face) != scheme.sort(joint.other_face)
-}
-
-/// Does a row before row `i` have this root face at an end?
-fn is_joined_before(joints: &[Joint], i: usize, root: u16, face: u8) -> bool
-    requires { i < length joints.now }
-    ensures { Decides result (Before joints.now i root face) }
-{
-    match first_row(joints, root, face) {
-        Some(first) => first < i,
-        None => false,
+impl Joint {
+    /// Do the sorts of the row's two faces differ?
+    fn sorts_differ<S: Scheme>(&self, scheme: &S) -> bool
+        ensures { IsTrue result ↔ Differ (S.Scheme.meaning scheme.now) self.now }
+    {
+        scheme.sort(self.face) != scheme.sort(self.other_face)
     }
 }
 
-/// Does row `i` join a face to itself, or one that an earlier row joins already?
-fn is_taken(joints: &[Joint], i: usize) -> bool
-    requires { i < length joints.now }
-    ensures { Decides result (Taken joints.now i) }
-{
-    let joint = joints[i];
-    joint.joins_itself()
-        || is_joined_before(joints, i, joint.root, joint.face)
-        || is_joined_before(joints, i, joint.other_root, joint.other_face)
-}
+impl Mesh {
+    /// Are there 1 to 256 roots, and at most 1,024 rows?
+    pub(crate) fn counts_hold(&self) -> bool
+        ensures { IsTrue result ↔ CountsIn self.now.roots self.now.joints.items }
+    {
+        1 <= self.roots && self.roots <= 256 && self.joints.len() <= 1024
+    }
 
-/// The first fault of row `i`.
-fn check_row<S: Scheme>(scheme: &S, roots: u16, joints: &[Joint], i: usize) -> Result<(), MeshFault>
-    requires { i < length joints.now }
-    ensures { MatchResult result (λ _. Sound (S.Scheme.meaning scheme.now) roots joints.now i) (λ f. ((told f).1 ≡ suc i) × Faulty (S.Scheme.meaning scheme.now) roots joints.now i (told f).0) }
-{
-    let joint = joints[i];
-    let row = i + 1;
-    if is_absent(scheme, roots, &joint) {
-        return Err(MeshFault::Absent { row });
+    /// Is a root, a face or the turn of the row absent?
+    fn is_absent<S: Scheme>(&self, scheme: &S, joint: &Joint) -> bool
+        ensures { IsTrue result ↔ Absent (S.Scheme.meaning scheme.now) self.now.roots joint.now }
+    {
+        let faces = scheme.faces();
+        joint.root >= self.roots
+            || joint.other_root >= self.roots
+            || joint.face >= faces
+            || joint.other_face >= faces
+            || joint.turn > 1
     }
-    if sorts_differ(scheme, &joint) {
-        return Err(MeshFault::SortsDiffer { row });
-    }
-    if is_taken(joints, i) {
-        return Err(MeshFault::Taken { row });
-    }
-    Ok(())
-}
 
-/// The first fault of the rows, in a mesh whose counts are in bounds.
-pub(crate) fn check_rows<S: Scheme>(
-    scheme: &S,
-    roots: u16,
-    joints: &[Joint],
-) -> Result<(), MeshFault>
-    requires { CountsIn roots joints.now }
-    ensures { Verdict (S.Scheme.meaning scheme.now) roots joints.now result }
-{
-    for i in 0..joints.len() {
-        check_row(scheme, roots, joints, i)?;
+    /// Does a row before row `i` have this root face at an end?
+    fn is_joined_before(&self, i: usize, end: RootFace) -> bool
+        requires { i < length self.now.joints.items }
+        ensures { IsTrue result ↔ Before self.now.joints.items i end.root end.face }
+    {
+        self.joints[..i].iter().any(|joint| joint.ends_at(end))
     }
-    Ok(())
+
+    /// Does this row `i` join a face to itself, or one that an earlier row joins already?
+    fn is_taken(&self, i: usize, joint: &Joint) -> bool
+        requires is_row { i < length self.now.joints.items }
+        requires this { joint.now ≡ row self.now.joints.items i }
+        ensures { IsTrue result ↔ Taken self.now.joints.items i }
+    {
+        joint.joins_itself()
+            || self.is_joined_before(i, joint.one())
+            || self.is_joined_before(i, joint.other())
+    }
+
+    /// The first fault of this row `i`.
+    fn check_row<S: Scheme>(&self, scheme: &S, i: usize, joint: &Joint) -> Result<(), MeshFault>
+        requires is_row { i < length self.now.joints.items }
+        requires this { joint.now ≡ row self.now.joints.items i }
+        ensures { MatchResult result (λ _. Sound (S.Scheme.meaning scheme.now) self.now.roots self.now.joints.items i) (λ f. ((told f).1 ≡ suc i) × Faulty (S.Scheme.meaning scheme.now) self.now.roots self.now.joints.items i (told f).0) }
+    {
+        let row = i + 1;
+        if self.is_absent(scheme, joint) {
+            return Err(MeshFault::Absent { row });
+        }
+        if joint.sorts_differ(scheme) {
+            return Err(MeshFault::SortsDiffer { row });
+        }
+        if self.is_taken(i, joint) {
+            return Err(MeshFault::Taken { row });
+        }
+        Ok(())
+    }
+
+    /// The first fault of the rows, in a mesh whose counts are in bounds.
+    pub(crate) fn check_rows<S: Scheme>(&self, scheme: &S) -> Result<(), MeshFault>
+        requires { CountsIn self.now.roots self.now.joints.items }
+        ensures { Verdict (S.Scheme.meaning scheme.now) self.now.roots self.now.joints.items result }
+    {
+        for (i, joint) in self.joints.iter().enumerate() {
+            self.check_row(scheme, i, joint)?;
+        }
+        Ok(())
+    }
 }

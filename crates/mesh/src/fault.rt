@@ -33,9 +33,8 @@ impl MeshFault {
     {
         match self {
             MeshFault::Counts => 0,
-            MeshFault::Absent { row } => *row,
-            MeshFault::SortsDiffer { row } => *row,
-            MeshFault::Taken { row } => *row,
+            MeshFault::Absent { row } | MeshFault::SortsDiffer { row } | MeshFault::Taken { row } =>
+                *row,
         }
     }
 }

@@ -1,3 +1,5 @@
+//! Meshes: a number of roots, and the joint rows that lay their faces against each other.
+
 #![tactic(auto)]
 
 mod check;

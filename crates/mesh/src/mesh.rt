@@ -2,8 +2,7 @@ ghost use Rattle.mesh.specs.Checking.{Verdict, OneVerdict, AcceptedJoined};
 ghost use Rattle.mesh.specs.Crossing.{Crossed, OneCrossing, LeadsBack, CrossesOver, LeadsOver};
 ghost use Rattle.mesh.specs.Samples.{SampleVerdicts, SampleCrossings};
 
-use crate::check::{check_rows, counts_hold};
-use crate::cross::{cross_rows, has_edge};
+use crate::cross::has_edge;
 use crate::fault::MeshFault;
 use crate::joint::Joint;
 use scheme::Scheme;
@@ -23,11 +22,10 @@ impl Mesh {
         ensures accepted { AcceptedJoined }
         ensures samples { SampleVerdicts }
     {
-        let joints = self.joints.as_slice();
-        if !counts_hold(self.roots, joints) {
+        if !self.counts_hold() {
             return Err(MeshFault::Counts);
         }
-        check_rows(scheme, self.roots, joints)
+        self.check_rows(scheme)
     }
 
     /// Over a joint: from an edge number of a root's face, at a level, to the root, face and edge
@@ -50,6 +48,6 @@ impl Mesh {
         if !has_edge(scheme, level, edge) {
             return None;
         }
-        cross_rows(scheme, self.joints.as_slice(), level, root, edge)
+        self.cross_rows(scheme, level, root, edge)
     }
 }

@@ -5,12 +5,6 @@ use Rattle.scheme.specs.Scheme.{h}
 use Rattle.mesh.proofs.Edges.{pow_of_pow, few_bits}
 use Rattle.mesh.proofs.cross.has_edge.Goals as goal
 
-pub overflow_mul-bits : goal.overflow_mul-bits
-overflow_mul-bits g c = omega (arith, few_bits c.width.result c.args.level c.width.ensures.bounds.1 (omega (arith, c.depth.ensures.bounds)))
-
-pub overflow_shl-result : goal.overflow_shl-result
-overflow_shl-result g c = omega (arith, few_bits c.width.result c.args.level c.width.ensures.bounds.1 (omega (arith, c.depth.ensures.bounds)))
-
 pub returns : goal.returns
 returns g c =
     let m = g.S.Scheme.meaning c.args.scheme.now in

@@ -1,6 +1,4 @@
-use Rattle.std.proofs.Common.{subst}
 use Rattle.std.proofs.lemmas.Bool.{both_ways}
-use Rattle.mesh.specs.Crossing.{Crossed}
 use Rattle.mesh.proofs.Leading.{one_crossing, leads_back, crosses_iff_over, leads_over}
 use Rattle.mesh.proofs.Sampling.{sample_crossings}
 use Rattle.mesh.proofs.mesh.Mesh.cross.Goals as goal
@@ -16,13 +14,11 @@ returns-then-not-has_edge g c = record {
 }
 
 pub returns : goal.returns
-returns g c =
-    let m = g.S.Scheme.meaning c.args.scheme.now in
-    record {
-      crossed = subst (λ js. Crossed m js c.args.level c.args.root c.args.edge c.cross_rows.result) c.as_slice.ensures.value c.cross_rows.ensures;
-      one = one_crossing;
-      back = leads_back;
-      over = crosses_iff_over;
-      everywhere = leads_over;
-      samples = sample_crossings;
-    }
+returns g c = record {
+  crossed = c.cross_rows.ensures;
+  one = one_crossing;
+  back = leads_back;
+  over = crosses_iff_over;
+  everywhere = leads_over;
+  samples = sample_crossings;
+}

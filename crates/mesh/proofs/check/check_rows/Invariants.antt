@@ -1,7 +1,0 @@
-use Rattle.std.proofs.Common.{ℕ, ◌<◌}
-use Rattle.mesh.specs.Joints.{Sound}
-use Rattle.mesh.proofs.check.check_rows.Given as goal
-
--- every row so far is sound
-abbrev pub invariant-loop-i : goal.invariant-loop-i
-invariant-loop-i g l = (i : ℕ) → i < l.i → Sound (g.S.Scheme.meaning l.scheme) l.roots l.joints i
