@@ -1,4 +1,3 @@
-pub mod Digits
 pub mod Overlaid
 pub mod EvenlyPlanted
 pub mod OnePlanting

@@ -1,78 +1,74 @@
-ghost use Rattle.std.specs.Prelude.{◌≡◌, ◌*◌, ◌/◌, ◌%◌, ◌^◌, ◌<◌, ◌≤◌, map, length, take, drop, replicate};
-ghost use Rattle.std.specs.List.{range_with_len};
+ghost use Rattle.std.specs.Prelude.{◌≡◌, ◌*◌, ◌^◌, ◌<◌, ◌≤◌, length, take, drop, replicate};
 ghost use Rattle.tiling.specs.Cells.{blank};
 ghost use Rattle.tiling.specs.Positions.{even, evenly, Blank};
 
 use tiling::Leaf;
 
-/// How many cells of a level a root has.
-pub(crate) fn cells(width: u8, level: u8) -> u64
-    requires { width * level ≤ 54 }
-    ensures { result ≡ 2 ^ (width * level) }
-{
-    1u64 << (width * level)
-}
-
-/// Stores a blank.
-fn store_blank(leaf: &mut Leaf)
-    ensures { leaf.new ≡ blank }
-{
-    *leaf = Leaf::BLANK;
-}
-
-/// Stores a blank in every record.
-fn blank_out(records: &mut [Leaf])
+/// Stores a blank in every record that is lent.
+pub(crate) fn blank_out(records: &mut [Leaf])
     ensures { records.new ≡ replicate (length records.old) blank }
 {
-    for record in records.iter_mut() {
-        store_blank(record);
+    records.fill(Leaf::BLANK);
+}
+
+/// All roots, each cut evenly to a level.
+#[derive(Clone, Copy)]
+pub(crate) struct EvenCut {
+    pub(crate) roots: u16,
+    pub(crate) width: u8,
+    pub(crate) level: u8,
+    ghost few: { roots ≤ 256 },
+    ghost fits: { width * level ≤ 54 },
+}
+
+impl EvenCut {
+    /// How many cells a root has.
+    fn cells(&self) -> usize
+        ensures { result ≡ 2 ^ (self.now.width * self.now.level) }
+    {
+        1usize << (self.width * self.level)
     }
-}
 
-/// The leaf `i` of all roots, where each has `each` cells of the level.
-fn even_leaf(i: u64, each: u64, level: u8) -> Leaf
-    requires some { 0 < each }
-    requires root { i / each < 65536 }
-    ensures { result ≡ record { root = i / each; level = level; place = i % each } }
-{
-    Leaf {
-        root: (i / each) as u16,
-        level,
-        place: i % each,
+    /// How many leaves all roots have.
+    pub(crate) fn count(&self) -> usize
+        ensures { result ≡ self.now.roots * 2 ^ (self.now.width * self.now.level) }
+    {
+        usize::from(self.roots) * self.cells()
     }
-}
 
-/// Writes the leaves of all roots, each cut to the level, in curve order.
-fn cut_evenly(records: &mut [Leaf], roots: u16, width: u8, level: u8)
-    requires fits { width * level ≤ 54 }
-    requires long { length records.old ≡ roots * 2 ^ (width * level) }
-    ensures { records.new ≡ map (even width level) (range_with_len 0 (length records.old)) }
-{
-    let each = cells(width, level);
-    for i in 0..records.len() {
-        records[i] = even_leaf(i as u64, each, level);
+    /// The leaf `i` of all roots, in curve order.
+    fn leaf(&self, i: usize) -> Leaf
+        requires { i < self.now.roots * 2 ^ (self.now.width * self.now.level) }
+        ensures { result ≡ even self.now.width self.now.level i }
+    {
+        let cells = self.cells();
+        Leaf {
+            root: (i / cells) as u16,
+            level: self.level,
+            place: (i % cells) as u64,
+        }
     }
-}
 
-/// Writes `count` leaves, all roots cut to the level, and blanks after them, up to `cap` records.
-pub(crate) fn lay(records: &mut [Leaf], roots: u16, width: u8, level: u8, count: usize, cap: usize)
-    requires fits { width * level ≤ 54 }
-    requires long { count ≡ roots * 2 ^ (width * level) }
-    requires room { count ≤ cap }
-    requires cap { cap ≤ length records.old }
-    ensures front { take count records.new ≡ evenly roots width level }
-    ensures rest { Blank records.new count cap }
-    ensures past { drop cap records.new ≡ drop cap records.old }
-{
-    cut_evenly(&mut records[0..count], roots, width, level);
-    blank_out(&mut records[count..cap]);
-}
+    /// Writes all leaves, in curve order.
+    fn write(&self, records: &mut [Leaf])
+        requires { length records.old ≡ self.now.roots * 2 ^ (self.now.width * self.now.level) }
+        ensures { records.new ≡ evenly self.now.roots self.now.width self.now.level }
+    {
+        for (i, record) in records.iter_mut().enumerate() {
+            *record = self.leaf(i);
+        }
+    }
 
-/// Blanks the first `cap` records.
-pub(crate) fn clear(records: &mut [Leaf], cap: usize)
-    requires { cap ≤ length records.old }
-    ensures rest { Blank records.new 0 cap }
-    ensures past { drop cap records.new ≡ drop cap records.old }
-{
-    blank_out(&mut records[0..cap]);
+    /// Writes all leaves, in curve order, and blanks after them, and answers how many leaves there are.
+    pub(crate) fn lay(&self, records: &mut [Leaf]) -> usize
+        requires { self.now.roots * 2 ^ (self.now.width * self.now.level) ≤ length records.old }
+        ensures count { result ≡ self.now.roots * 2 ^ (self.now.width * self.now.level) }
+        ensures front { take result records.new ≡ evenly self.now.roots self.now.width self.now.level }
+        ensures rest { Blank records.new result (length records.old) }
+    {
+        let count = self.count();
+        self.write(&mut records[..count]);
+        blank_out(&mut records[count..]);
+        count
+    }
 }

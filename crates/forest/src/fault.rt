@@ -1,4 +1,5 @@
 ghost use Rattle.std.specs.Prelude.{◌≡◌};
+ghost use Rattle.forest.specs.declared.fault.PlantFault.TheVariants.{Mesh as OfMesh};
 ghost use Rattle.forest.specs.Faults.{told};
 
 use mesh::MeshFault;
@@ -12,6 +13,14 @@ pub enum PlantFault {
     TooDeep,
     /// There are more leaves than memory.
     NoRoom,
+}
+
+impl From<MeshFault> for PlantFault {
+    ghost from_gives = { λ fault e. e ≡ OfMesh fault };
+
+    fn from(fault: MeshFault) -> PlantFault {
+        Self::Mesh(fault)
+    }
 }
 
 impl PlantFault {

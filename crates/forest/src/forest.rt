@@ -1,4 +1,5 @@
-ghost use Rattle.std.specs.Prelude.{◌≡◌, ◌≤◌, min, true, false, take, vec_len};
+ghost use Rattle.std.specs.Prelude.{◌≡◌, ◌≤◌, min, true, unwrap_or, take, vec_len};
+ghost use Rattle.std.specs.Option.{ForSome};
 ghost use Rattle.tiling.specs.Positions.{fills, Blank};
 
 use crate::signature::Signature;
@@ -10,15 +11,15 @@ use tiling::Leaf;
 /// Memory past 65,536 records is never touched or counted. A dead forest, which a refused planting leaves, has no leaves.
 #[derive(Drop)]
 pub struct Forest {
+    // The rules hand the memory in and never grow it, leaves first and then blanks, so it is longer than its leaves.
     pub(crate) memory: Vec<Leaf>,
-    pub(crate) count: usize,
+    /// How many of its records are leaves, or `None` in a dead forest.
+    pub(crate) count: Option<usize>,
     pub(crate) mesh: Mesh,
     pub(crate) level: u8,
     pub(crate) signature: Signature,
-    pub(crate) alive: bool,
-    ghost room: { (count ≤ vec_len memory) × (count ≤ 65536) },
-    ghost few: { alive ≡ true → mesh.roots ≤ 256 },
-    ghost ground: { alive ≡ true → fills signature.width signature.depth mesh.roots (take count memory.items) ≡ true },
-    ghost dead: { alive ≡ false → count ≡ 0 },
-    ghost blanks: { Blank memory.items count (min (vec_len memory) 65536) },
+    ghost room: { ForSome count (λ n. (n ≤ vec_len memory) × (n ≤ 65536)) },
+    ghost few: { ForSome count (λ _. mesh.roots ≤ 256) },
+    ghost ground: { ForSome count (λ n. fills signature.width signature.depth mesh.roots (take n memory.items) ≡ true) },
+    ghost blanks: { Blank memory.items (unwrap_or count 0) (min (vec_len memory) 65536) },
 }

@@ -1,3 +1,5 @@
+//! Forests: the leaves of a mesh's roots, planted evenly in memory that is handed in.
+
 #![tactic(auto)]
 
 mod cut;

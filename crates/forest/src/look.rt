@@ -2,7 +2,7 @@ ghost use Rattle.std.specs.Prelude.{◌≡◌, true};
 ghost use Rattle.scheme.specs.Scheme.{Model};
 ghost use Rattle.tiling.specs.Cells.{Tiles};
 ghost use Rattle.forest.specs.Signs.{Signs};
-ghost use Rattle.forest.specs.Planting.{leaves as leaves_of};
+ghost use Rattle.forest.specs.Planting.{alive, leaves as leaves_of};
 
 use crate::forest::Forest;
 use mesh::Mesh;
@@ -13,13 +13,13 @@ impl Forest {
     fn front(&self) -> &[Leaf]
         ensures { result.now ≡ leaves_of self.now }
     {
-        &self.records()[0..self.count]
+        &self.records()[..self.count.unwrap_or(0)]
     }
 
     /// The leaves, in curve order. While the forest is alive they tile the ground.
     pub fn leaves(&self) -> &[Leaf]
         ensures value { result.now ≡ leaves_of self.now }
-        ensures ground { (m : Model) → Signs m self.now.signature → self.now.alive ≡ true → Tiles m self.now.mesh.roots result.now }
+        ensures ground { (m : Model) → Signs m self.now.signature → alive self.now ≡ true → Tiles m self.now.mesh.roots result.now }
     {
         self.front()
     }
@@ -33,9 +33,9 @@ impl Forest {
 
     /// Was its planting granted?
     pub fn is_alive(&self) -> bool
-        ensures { result ≡ self.now.alive }
+        ensures { result ≡ alive self.now }
     {
-        self.alive
+        self.count.is_some()
     }
 
     /// The mesh that it was planted on.

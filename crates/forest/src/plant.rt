@@ -1,7 +1,8 @@
-ghost use Rattle.std.specs.Prelude.{◌≡◌, ◌*◌, ◌^◌, ◌<◌, ◌≤◌, MatchOption, MatchResult};
-ghost use Rattle.forest.specs.Planting.{Planted, Stopped, Sound, OnePlanting};
+ghost use Rattle.std.specs.Prelude.{◌≡◌, drop, MatchResult};
+ghost use Rattle.tiling.specs.Positions.{Blank};
+ghost use Rattle.forest.specs.Planting.{counted, Planted, Admitted, Laid, Stopped, OnePlanting};
 
-use crate::cut::{cells, clear, lay};
+use crate::cut::{EvenCut, blank_out};
 use crate::fault::PlantFault;
 use crate::forest::Forest;
 use crate::signature::Signature;
@@ -12,31 +13,42 @@ use tiling::Leaf;
 /// The most records that a forest counts.
 const CAP: usize = 65536;
 
-/// The number of leaves, where they are no more than the counted records.
-fn fitting(leaves: u64, cap: usize) -> Option<usize>
-    ensures { MatchOption result (cap < leaves) (λ n. (n ≡ leaves) × (n ≤ cap)) }
+/// The cut of all roots to the level, which fits in `cap` records, or why the planting stops.
+fn admit<S: Scheme>(scheme: &S, mesh: &Mesh, level: u8, cap: usize) -> Result<EvenCut, PlantFault>
+    ensures { MatchResult result (λ cut. Admitted (S.Scheme.meaning scheme.now) mesh.now.roots mesh.now.joints.items level cap cut) (λ e. Stopped (S.Scheme.meaning scheme.now) mesh.now.roots mesh.now.joints.items level cap e) }
 {
-    if leaves <= cap as u64 {
-        Some(leaves as usize)
-    } else {
-        None
-    }
-}
-
-/// The number of leaves to plant, or why the planting stops.
-fn admit<S: Scheme>(scheme: &S, mesh: &Mesh, level: u8, cap: usize) -> Result<usize, PlantFault>
-    ensures { MatchResult result (λ n. Sound (S.Scheme.meaning scheme.now) mesh.now.roots mesh.now.joints.items × (level ≤ (S.Scheme.meaning scheme.now).D) × (n ≡ mesh.now.roots * 2 ^ ((S.Scheme.meaning scheme.now).w * level)) × (n ≤ cap)) (λ e. Stopped (S.Scheme.meaning scheme.now) mesh.now.roots mesh.now.joints.items level cap e) }
-{
-    if let Err(fault) = mesh.check(scheme) {
-        return Err(PlantFault::Mesh(fault));
-    }
+    mesh.check(scheme)?;
     if level > scheme.depth() {
         return Err(PlantFault::TooDeep);
     }
-    let leaves = mesh.roots as u64 * cells(scheme.width(), level);
-    match fitting(leaves, cap) {
-        Some(count) => Ok(count),
-        None => Err(PlantFault::NoRoom),
+    let cut = EvenCut {
+        roots: mesh.roots,
+        width: scheme.width(),
+        level,
+    };
+    if cut.count() > cap {
+        return Err(PlantFault::NoRoom);
+    }
+    Ok(cut)
+}
+
+/// Lays the leaves and then blanks, or blanks alone where the planting stops, in the counted records.
+fn lay<S: Scheme>(
+    scheme: &S,
+    mesh: &Mesh,
+    level: u8,
+    records: &mut [Leaf],
+) -> Result<usize, PlantFault>
+    ensures laid { MatchResult result (λ n. Laid (S.Scheme.meaning scheme.now) mesh.now.roots mesh.now.joints.items level (counted records.old) n records.new) (λ e. Stopped (S.Scheme.meaning scheme.now) mesh.now.roots mesh.now.joints.items level (counted records.old) e × Blank records.new 0 (counted records.old)) }
+    ensures past { drop (counted records.old) records.new ≡ drop (counted records.old) records.old }
+{
+    let cap = records.len().min(CAP);
+    match admit(scheme, mesh, level, cap) {
+        Ok(cut) => Ok(cut.lay(&mut records[..cap])),
+        Err(fault) => {
+            blank_out(&mut records[..cap]);
+            Err(fault)
+        }
     }
 }
 
@@ -54,39 +66,14 @@ impl Forest {
         ensures one { OnePlanting }
     {
         let signature = Signature::of(scheme);
-        let cap = memory.len().min(CAP);
-        match admit(scheme, &mesh, level, cap) {
-            Ok(count) => {
-                lay(
-                    memory.as_mut_slice(),
-                    mesh.roots,
-                    signature.width,
-                    level,
-                    count,
-                    cap,
-                );
-                let forest = Forest {
-                    memory,
-                    count,
-                    mesh,
-                    level,
-                    signature,
-                    alive: true,
-                };
-                (forest, Ok(count))
-            }
-            Err(fault) => {
-                clear(memory.as_mut_slice(), cap);
-                let forest = Forest {
-                    memory,
-                    count: 0,
-                    mesh,
-                    level,
-                    signature,
-                    alive: false,
-                };
-                (forest, Err(fault))
-            }
-        }
+        let planted = lay(scheme, &mesh, level, memory.as_mut_slice());
+        let forest = Forest {
+            memory,
+            count: planted.ok(),
+            mesh,
+            level,
+            signature,
+        };
+        (forest, planted)
     }
 }

@@ -4,16 +4,13 @@ ghost use Rattle.forest.specs.Signs.{Signs};
 
 use crate::signature::Signature;
 use scheme::Scheme;
+use std::array;
 
 /// The sorts of the faces, 0 where there is no face.
 fn sorts_of<S: Scheme>(scheme: &S) -> [u8; 8]
     ensures { (g : ℕ) → g < 8 → slice_index result g ≡ unwrap_or ((S.Scheme.meaning scheme.now).sort g) 0 }
 {
-    let mut sorts = [0; 8];
-    for face in 0..8u8 {
-        sorts[face as usize] = scheme.sort(face).unwrap_or(0);
-    }
-    sorts
+    array::from_fn(|face| scheme.sort(face as u8).unwrap_or(0))
 }
 
 impl Signature {
