@@ -1,3 +1,4 @@
 pub mod Faults
 pub mod Signs
+pub mod Cuts
 pub mod Planting

@@ -7,11 +7,12 @@ use Rattle.mesh.specs.Checking.{Verdict}
 use Rattle.tiling.specs.declared.leaf.Leaf.{Leaf}
 use Rattle.tiling.specs.Cells.{CellOf, Tiles, Among}
 use Rattle.tiling.specs.Positions.{evenly, Blank}
-use Rattle.forest.specs.declared.cut.EvenCut.{EvenCut}
+use Rattle.forest.specs.declared.even_cut.EvenCut.{EvenCut}
 use Rattle.forest.specs.declared.forest.Forest.{Forest}
 use Rattle.forest.specs.declared.fault.PlantFault.{PlantFault}
 use Rattle.forest.specs.declared.fault.PlantFault.TheVariants.{Mesh, TooDeep, NoRoom}
 use Rattle.forest.specs.Signs.{Signs}
+use Rattle.forest.specs.Cuts.{leaf_count}
 
 -- its planting was granted
 abbrev pub alive : Forest → Bool
@@ -41,7 +42,7 @@ pub record Admitted (m : Model) (roots : ℕ) (js : List Joint) (l cap : ℕ) (c
   pub all_roots : cut.roots ≡ roots
   pub by_width : cut.width ≡ m.w
   pub to_level : cut.level ≡ l
-  pub room : roots * 2 ^ (m.w * l) ≤ cap
+  pub room : leaf_count cut ≤ cap
 
 -- the records hold n leaves, every root cut evenly to level l, and then blanks up to the cap
 pub record Laid (m : Model) (roots : ℕ) (js : List Joint) (l cap n : ℕ) (records : List Leaf) : Type 0 where

@@ -1,7 +1,9 @@
-ghost use Rattle.std.specs.Prelude.{◌≡◌, ◌*◌, ◌^◌, ◌<◌, ◌≤◌, length, take, drop, replicate};
+ghost use Rattle.std.specs.Prelude.{◌≡◌, ◌*◌, ◌<◌, ◌≤◌, length, take, replicate};
 ghost use Rattle.tiling.specs.Cells.{blank};
-ghost use Rattle.tiling.specs.Positions.{even, evenly, Blank};
+ghost use Rattle.tiling.specs.Positions.{even, Blank};
+ghost use Rattle.forest.specs.Cuts.{cell_count, leaf_count, cut_leaves};
 
+use crate::even_cut::EvenCut;
 use tiling::Leaf;
 
 /// Stores a blank in every record that is lent.
@@ -11,37 +13,28 @@ pub(crate) fn blank_out(records: &mut [Leaf])
     records.fill(Leaf::BLANK);
 }
 
-/// All roots, each cut evenly to a level.
-#[derive(Clone, Copy)]
-pub(crate) struct EvenCut {
-    pub(crate) roots: u16,
-    pub(crate) width: u8,
-    pub(crate) level: u8,
-    ghost few: { roots ≤ 256 },
-    ghost fits: { width * level ≤ 54 },
-}
-
 impl EvenCut {
     /// How many cells a root has.
     fn cells(&self) -> usize
-        ensures { result ≡ 2 ^ (self.now.width * self.now.level) }
+        ensures { result ≡ cell_count self.now }
     {
         1usize << (self.width * self.level)
     }
 
     /// How many leaves all roots have.
     pub(crate) fn count(&self) -> usize
-        ensures { result ≡ self.now.roots * 2 ^ (self.now.width * self.now.level) }
+        ensures { result ≡ leaf_count self.now }
     {
         usize::from(self.roots) * self.cells()
     }
 
     /// The leaf `i` of all roots, in curve order.
     fn leaf(&self, i: usize) -> Leaf
-        requires { i < self.now.roots * 2 ^ (self.now.width * self.now.level) }
+        requires { i < leaf_count self.now }
         ensures { result ≡ even self.now.width self.now.level i }
     {
         let cells = self.cells();
+        // No `From` leads from usize to these two types, and a `TryFrom` has an error that cannot occur.
         Leaf {
             root: (i / cells) as u16,
             level: self.level,
@@ -51,8 +44,8 @@ impl EvenCut {
 
     /// Writes all leaves, in curve order.
     fn write(&self, records: &mut [Leaf])
-        requires { length records.old ≡ self.now.roots * 2 ^ (self.now.width * self.now.level) }
-        ensures { records.new ≡ evenly self.now.roots self.now.width self.now.level }
+        requires { length records.old ≡ leaf_count self.now }
+        ensures { records.new ≡ cut_leaves self.now }
     {
         for (i, record) in records.iter_mut().enumerate() {
             *record = self.leaf(i);
@@ -60,10 +53,10 @@ impl EvenCut {
     }
 
     /// Writes all leaves, in curve order, and blanks after them, and answers how many leaves there are.
-    pub(crate) fn lay(&self, records: &mut [Leaf]) -> usize
-        requires { self.now.roots * 2 ^ (self.now.width * self.now.level) ≤ length records.old }
-        ensures count { result ≡ self.now.roots * 2 ^ (self.now.width * self.now.level) }
-        ensures front { take result records.new ≡ evenly self.now.roots self.now.width self.now.level }
+    pub(crate) fn fill(&self, records: &mut [Leaf]) -> usize
+        requires { leaf_count self.now ≤ length records.old }
+        ensures count { result ≡ leaf_count self.now }
+        ensures front { take result records.new ≡ cut_leaves self.now }
         ensures rest { Blank records.new result (length records.old) }
     {
         let count = self.count();

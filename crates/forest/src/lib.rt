@@ -3,6 +3,7 @@
 #![tactic(auto)]
 
 mod cut;
+mod even_cut;
 mod fault;
 mod forest;
 mod look;

@@ -2,7 +2,8 @@ ghost use Rattle.std.specs.Prelude.{◌≡◌, drop, MatchResult};
 ghost use Rattle.tiling.specs.Positions.{Blank};
 ghost use Rattle.forest.specs.Planting.{counted, Planted, Admitted, Laid, Stopped, OnePlanting};
 
-use crate::cut::{EvenCut, blank_out};
+use crate::cut::blank_out;
+use crate::even_cut::EvenCut;
 use crate::fault::PlantFault;
 use crate::forest::Forest;
 use crate::signature::Signature;
@@ -44,7 +45,7 @@ fn lay<S: Scheme>(
 {
     let cap = records.len().min(CAP);
     match admit(scheme, mesh, level, cap) {
-        Ok(cut) => Ok(cut.lay(&mut records[..cap])),
+        Ok(cut) => Ok(cut.fill(&mut records[..cap])),
         Err(fault) => {
             blank_out(&mut records[..cap]);
             Err(fault)

@@ -10,6 +10,7 @@ use std::array;
 fn sorts_of<S: Scheme>(scheme: &S) -> [u8; 8]
     ensures { (g : ℕ) → g < 8 → slice_index result g ≡ unwrap_or ((S.Scheme.meaning scheme.now).sort g) 0 }
 {
+    // No `From` leads from usize to u8, and a `TryFrom` has an error that cannot occur.
     array::from_fn(|face| scheme.sort(face as u8).unwrap_or(0))
 }
 
@@ -18,15 +19,11 @@ impl Signature {
     pub fn of<S: Scheme>(scheme: &S) -> Signature
         ensures { Signs (S.Scheme.meaning scheme.now) result }
     {
-        let width = scheme.width();
-        let faces = scheme.faces();
-        let depth = scheme.depth();
-        let sorts = sorts_of(scheme);
         Signature {
-            width,
-            faces,
-            depth,
-            sorts,
+            width: scheme.width(),
+            faces: scheme.faces(),
+            depth: scheme.depth(),
+            sorts: sorts_of(scheme),
         }
     }
 }

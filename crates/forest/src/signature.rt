@@ -6,6 +6,7 @@ pub struct Signature {
     pub(crate) width: u8,
     pub(crate) faces: u8,
     pub(crate) depth: u8,
+    // Eight sorts, 0 past the faces, and not a list of as many as there are: docs/DECISIONS.md says what a forest keeps.
     pub(crate) sorts: [u8; 8],
     ghost widths: { (1 ≤ width) × (width ≤ 4) },
     ghost sides: { (2 ≤ faces) × (faces ≤ 8) },

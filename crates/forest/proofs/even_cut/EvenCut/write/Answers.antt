@@ -2,7 +2,7 @@ use Rattle.std.proofs.Common.{arith}
 use Rattle.std.proofs.lemmas.List.FromFn.{fill_by_all}
 use Rattle.tiling.specs.Cells.{blank}
 use Rattle.tiling.specs.Positions.{even}
-use Rattle.forest.proofs.cut.EvenCut.write.Goals as goal
+use Rattle.forest.proofs.even_cut.EvenCut.write.Goals as goal
 
 pub returns : goal.returns
 returns c =

@@ -1,7 +1,7 @@
 use Rattle.std.proofs.Common.{◌≡◌, ℕ, ◌<◌, get_or}
 use Rattle.tiling.specs.Cells.{blank}
 use Rattle.tiling.specs.Positions.{even}
-use Rattle.forest.proofs.cut.EvenCut.write.Given as goal
+use Rattle.forest.proofs.even_cut.EvenCut.write.Given as goal
 
 -- the leaves so far are written
 abbrev pub invariant-loop-i : goal.invariant-loop-i

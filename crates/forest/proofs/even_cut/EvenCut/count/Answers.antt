@@ -1,5 +1,5 @@
 use Rattle.std.proofs.Common.{◌≤◌, ◌^◌, mul-le-mul, arith, pow_mono}
-use Rattle.forest.proofs.cut.EvenCut.count.Goals as goal
+use Rattle.forest.proofs.even_cut.EvenCut.count.Goals as goal
 
 -- at most 256 roots of 2^54 cells
 pub overflow_mul-result : goal.overflow_mul-result
