@@ -1,4 +1,4 @@
-ghost use Rattle.std.specs.Prelude.{◌≡◌, ◌*◌, ◌<◌, ◌≤◌, length, take, replicate};
+ghost use Rattle.std.specs.Prelude.{◌≡◌, ◌<◌, ◌≤◌, ◌↔◌, length, take, replicate, IsTrue};
 ghost use Rattle.tiling.specs.Cells.{blank};
 ghost use Rattle.tiling.specs.Positions.{even, Blank};
 ghost use Rattle.forest.specs.Cuts.{cell_count, leaf_count, cut_leaves};
@@ -22,10 +22,17 @@ impl EvenCut {
     }
 
     /// How many leaves all roots have.
-    pub(crate) fn count(&self) -> usize
+    fn count(&self) -> usize
         ensures { result ≡ leaf_count self.now }
     {
         usize::from(self.roots) * self.cells()
+    }
+
+    /// Does memory of `cap` records hold all leaves?
+    pub(crate) fn fits(&self, cap: usize) -> bool
+        ensures { IsTrue result ↔ (leaf_count self.now ≤ cap) }
+    {
+        self.count() <= cap
     }
 
     /// The leaf `i` of all roots, in curve order.

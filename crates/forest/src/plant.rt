@@ -27,7 +27,7 @@ fn admit<S: Scheme>(scheme: &S, mesh: &Mesh, level: u8, cap: usize) -> Result<Ev
         width: scheme.width(),
         level,
     };
-    if cut.count() > cap {
+    if !cut.fits(cap) {
         return Err(PlantFault::NoRoom);
     }
     Ok(cut)
