@@ -1,5 +1,5 @@
 -- Planting has one answer: its checks exclude each other, and the mesh has one verdict.
-use Rattle.std.proofs.Common.{◌≡◌, ℕ, ◌*◌, ◌^◌, ◌≤◌, List, Ok, Err, Result, sym, refl, ap, ◌∙◌, arith}
+use Rattle.std.proofs.Common.{◌≡◌, ℕ, ◌*◌, ◌^◌, ◌≤◌, List, Ok, Err, sym, refl, ap, ◌∙◌, arith}
 use Rattle.scheme.specs.Scheme.{Model, k}
 use Rattle.mesh.specs.declared.joint.Joint.{Joint}
 use Rattle.mesh.specs.declared.fault.MeshFault.{MeshFault}
@@ -13,13 +13,10 @@ use Rattle.forest.specs.Planting.{Sound, Stopped, Grown, Dead, OnePlanting}
 module _ (m : Model) (roots : ℕ) (js : List Joint) (l cap : ℕ) where
   -- a sound mesh has no fault
   sound_not : (f : MeshFault) → Sound m roots js → Verdict m roots js (Err f) → ⊥
-  sound_not f s v =
-      let e : ◌≡◌ {A = Result (Unit {0}) MeshFault} (Ok tt) (Err f) = one_verdict m roots js (Ok tt) (Err f) s v in
-      let z : ◌≡◌ {A = ℕ} 0 1 = cc e in omega arith
+  sound_not f s v = cc (one_verdict m roots js (Ok tt) (Err f) s v)
 
   one_fault : (f f' : MeshFault) → Verdict m roots js (Err f) → Verdict m roots js (Err f') → f ≡ f'
-  one_fault f f' v v' =
-      let e : ◌≡◌ {A = Result (Unit {0}) MeshFault} (Err f) (Err f') = one_verdict m roots js (Err f) (Err f') v v' in cc e
+  one_fault f f' v v' = cc (one_verdict m roots js (Err f) (Err f') v v')
 
   -- a planting that stops is not granted
   pub not_both : (e : PlantFault) → Stopped m roots js l cap e → Sound m roots js → l ≤ m.D → roots * k m ^ l ≤ cap → ⊥

@@ -9,8 +9,8 @@ use Rattle.scheme.specs.Scheme.{Model}
 -- sorts that are not different are the same
 same_sort : (o o' : Option ℕ) → ((o ≡ o' → ⊥) → ⊥) → o ≡ o'
 same_sort None None h = refl
-same_sort None (Some y) h = absurd (h (λ e. (let z : ◌≡◌ {A = ℕ} 0 1 = cc in omega arith)))
-same_sort (Some x) None h = absurd (h (λ e. (let z : ◌≡◌ {A = ℕ} 0 1 = cc in omega arith)))
+same_sort None (Some y) h = absurd (h (λ e. cc))
+same_sort (Some x) None h = absurd (h (λ e. cc))
 same_sort (Some x) (Some y) h = go (cases_eq x y)
   where
     go : (x ≡ y) ⊎ (x ≡ y → ⊥) → Some x ≡ Some y
