@@ -1,9 +1,11 @@
 -- The bytes of a description: what an encoder writes for its values.
-use Rattle.std.specs.Prelude.{ℕ, zero, suc, ◌/◌, ◌%◌, List, [], ◌∷◌, ◌++◌, length, vec_items}
+use Rattle.std.specs.Prelude.{◌≡◌, ℕ, zero, suc, ◌/◌, ◌%◌, List, [], ◌∷◌, ◌++◌, length, vec_items, Result, MatchResult}
+use Rattle.std.specs.Int.{IsOutOfRange}
 use Rattle.std.specs.List.{flat_map}
 use Rattle.mesh.specs.declared.joint.Joint.{Joint}
 use Rattle.description.specs.declared.shape.Shape.{Shape}
 use Rattle.description.specs.declared.shape.Shape.TheVariants.{Line, Square, Triangle, Prism, Hexahedron}
+use Rattle.description.specs.declared.shape.UnknownScheme.{UnknownScheme}
 use Rattle.description.specs.declared.step.WindowStep.{WindowStep}
 use Rattle.description.specs.declared.step.RangeStep.{RangeStep}
 use Rattle.description.specs.declared.step.Step.{Step}
@@ -45,6 +47,10 @@ scheme_of Square = 2
 scheme_of Triangle = 3
 scheme_of Prism = 4
 scheme_of Hexahedron = 5
+
+-- the result is the shape of this scheme, or an error with a number that no shape's scheme has
+abbrev pub Decodes : ℕ → Result Shape UnknownScheme → Type 0
+Decodes n r = MatchResult r (λ shape. scheme_of shape ≡ n) (λ e. (e.0 ≡ n) × IsOutOfRange 1 5 n)
 
 -- what a description says
 pub record Contents : Type 0 where

@@ -18,5 +18,5 @@ mod values;
 pub use description::Description;
 pub use reading::read;
 pub use refusal::Refusal;
-pub use shape::Shape;
+pub use shape::{Shape, UnknownScheme};
 pub use step::{RangeStep, Step, WindowStep};
