@@ -2,9 +2,9 @@
 use Rattle.std.proofs.Common.{ℕ, ◌≤◌, ◌⊎◌, inl, inr, arith}
 use Rattle.std.proofs.lemmas.Bool.{cases_lt}
 use Rattle.mesh.specs.declared.joint.Joint.{Joint}
-use Rattle.description.specs.declared.head.Head.{Head}
 use Rattle.description.specs.declared.step.Step.{Step}
 use Rattle.description.specs.declared.step.Step.TheVariants.{Window, Range, Balance}
+use Rattle.description.specs.Format.{Head}
 use Rattle.description.specs.Bounds.{HeadFits, HeadWithin, RowFits, RowWithin, StepFits, StepWithin}
 
 -- a bound holds or not, and so do two

@@ -1,4 +1,5 @@
 pub mod Bytes
+pub mod Values
 pub mod Passage
 pub mod Tags
 pub mod Following

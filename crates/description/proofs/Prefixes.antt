@@ -1,12 +1,11 @@
 -- No part's bytes begin another's: the part at the front of a list is told by its bytes.
 use Rattle.std.proofs.Common.{◌≡◌, ℕ, ◌⊎◌, List, [], ◌∷◌, ◌++◌, length, sym, refl, ap, ◌∙◌, inl, inr, append_assoc, arith, length-append}
 use Rattle.mesh.specs.declared.joint.Joint.{Joint}
-use Rattle.description.specs.declared.head.Head.{Head}
 use Rattle.description.specs.declared.step.WindowStep.{WindowStep}
 use Rattle.description.specs.declared.step.RangeStep.{RangeStep}
 use Rattle.description.specs.declared.step.Step.{Step}
 use Rattle.description.specs.declared.step.Step.TheVariants.{Window, Range, Balance}
-use Rattle.description.specs.Format.{be, head_bytes, row_bytes, window_bytes, range_bytes, step_bytes}
+use Rattle.description.specs.Format.{Head, be, head_bytes, row_bytes, window_bytes, range_bytes, step_bytes}
 use Rattle.description.specs.Bounds.{HeadFits, RowFits, WindowFits, RangeFits, StepFits}
 use Rattle.description.specs.Faults.{Cut, Unknown, CutStep, TagFault}
 use Rattle.description.proofs.Bytes.{field}

@@ -2,9 +2,8 @@
 use Rattle.std.proofs.Common.{◌≡◌, ℕ, zero, suc, ◌<◌, ◌≤◌, ◌⊎◌, List, [], ◌∷◌, ◌++◌, length, sym, refl, ap, ◌∙◌, subst, inl, inr, append_assoc, append-nil, arith, length-append}
 use Rattle.std.specs.List.{flat_map, AllByRecursion}
 use Rattle.std.proofs.lemmas.Bool.{cases_lt, cases_eq}
-use Rattle.description.specs.declared.head.Head.{Head}
 use Rattle.description.specs.declared.step.Step.TheVariants.{Window, Range, Balance}
-use Rattle.description.specs.Format.{be, head_bytes, row_bytes, window_bytes, range_bytes, step_bytes}
+use Rattle.description.specs.Format.{Head, be, head_bytes, row_bytes, window_bytes, range_bytes, step_bytes}
 use Rattle.description.specs.Bounds.{HeadFits, HeadWithin, RowFits, RowWithin, WindowFits, RangeFits, StepFits, StepWithin}
 use Rattle.description.specs.Faults.{Cut, Beyond, TagFault, HeadFault, RowFault, StepFault}
 use Rattle.description.specs.Reading.{Answer, granted, refused, Reads}

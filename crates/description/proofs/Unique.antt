@@ -2,10 +2,9 @@
 use Rattle.std.proofs.Common.{◌≡◌, ℕ, ◌<◌, ◌≤◌, ◌⊎◌, List, [], ◌++◌, length, sym, refl, ap, ◌∙◌, subst, inl, inr, append_assoc, append-nil, arith, length-append}
 use Rattle.std.specs.List.{flat_map, AllByRecursion}
 use Rattle.mesh.specs.declared.joint.Joint.{Joint}
-use Rattle.description.specs.declared.head.Head.{Head}
 use Rattle.description.specs.declared.step.Step.{Step}
 use Rattle.description.specs.declared.step.Step.TheVariants.{Window, Range, Balance}
-use Rattle.description.specs.Format.{head_of, head_bytes, row_bytes, step_bytes}
+use Rattle.description.specs.Format.{Head, head_of, head_bytes, row_bytes, step_bytes}
 use Rattle.description.specs.Bounds.{HeadFits, HeadWithin, RowFits, RowWithin, StepFits, StepWithin}
 use Rattle.description.specs.Faults.{Cut, TagFault, HeadFault, RowFault, StepFault}
 use Rattle.description.specs.Reading.{Answer, granted, refused, Reads}

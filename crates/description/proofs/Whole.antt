@@ -4,13 +4,12 @@ use Rattle.std.specs.List.{flat_map, AllByRecursion}
 use Rattle.std.proofs.ByRecursion.{All-weaker}
 use Rattle.std.proofs.lemmas.Result.{err_from_is_err_and}
 use Rattle.mesh.specs.declared.joint.Joint.{Joint}
-use Rattle.description.specs.declared.head.Head.{Head}
 use Rattle.description.specs.declared.step.Step.{Step}
 use Rattle.description.specs.declared.reader.Reader.{Reader}
 use Rattle.description.specs.declared.refusal.Refusal.{Refusal}
 use Rattle.description.specs.declared.description.Description.{Description}
 use Rattle.description.specs.Told.{told}
-use Rattle.description.specs.Format.{contents, head_bytes, row_bytes, step_bytes}
+use Rattle.description.specs.Format.{Head, contents, head_bytes, row_bytes, step_bytes}
 use Rattle.description.specs.Bounds.{HeadWithin, RowWithin, StepWithin}
 use Rattle.description.specs.Faults.{HeadFault, StepFault}
 use Rattle.description.specs.Reading.{refused, Granted, Reads}
@@ -40,9 +39,9 @@ module _ (bytes : List ℕ) (short : length bytes ≤ 8192) (r : Reader) (start 
   whole : left r ≡ bytes
   whole = ap (λ (n : ℕ). drop n r.bytes.now) start ∙ input
 
-  pub at_head : (e : ℕ × ℕ) → e.1 ≡ r.at → HeadFault e.0 (left r) → Reads bytes (refused e.0 e.1)
+  pub at_head : (e : ℕ × ℕ) → e.1 ≡ 0 → HeadFault e.0 (left r) → Reads bytes (refused e.0 e.1)
   at_head e place fault =
-      inr (inl record { short = short; place = place ∙ start; fault = subst (λ (z : List ℕ). HeadFault e.0 z) whole fault })
+      inr (inl record { short = short; place = place; fault = subst (λ (z : List ℕ). HeadFault e.0 z) whole fault })
 
   module _ (h : Head) (within : HeadWithin h) {r' : Reader} (head : Passed r r' (head_bytes h)) where
     at_row : (e : ℕ × ℕ) → RowsStopped h.rows r' e → Reads bytes (refused e.0 e.1)

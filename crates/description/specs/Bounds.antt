@@ -5,7 +5,7 @@ use Rattle.description.specs.declared.step.WindowStep.{WindowStep}
 use Rattle.description.specs.declared.step.RangeStep.{RangeStep}
 use Rattle.description.specs.declared.step.Step.{Step}
 use Rattle.description.specs.declared.step.Step.TheVariants.{Window, Range, Balance}
-use Rattle.description.specs.declared.head.Head.{Head}
+use Rattle.description.specs.Format.{Head}
 
 pub record HeadFits (h : Head) : Type 0 where
   pub scheme_fits : h.scheme < 256

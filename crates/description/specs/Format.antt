@@ -10,13 +10,20 @@ use Rattle.description.specs.declared.step.WindowStep.{WindowStep}
 use Rattle.description.specs.declared.step.RangeStep.{RangeStep}
 use Rattle.description.specs.declared.step.Step.{Step}
 use Rattle.description.specs.declared.step.Step.TheVariants.{Window, Range, Balance}
-use Rattle.description.specs.declared.head.Head.{Head}
 use Rattle.description.specs.declared.description.Description.{Description}
 
 -- the n bytes of x, high byte first
 unfoldable pub be : ℕ → ℕ → List ℕ
 be zero x = []
 be (suc n) x = be n (x / 256) ++ (x % 256 ∷ [])
+
+-- a head as its bytes hold it, where any number may stand for the scheme
+pub record Head : Type 0 where
+  pub scheme : ℕ
+  pub roots : ℕ
+  pub level : ℕ
+  pub limit : ℕ
+  pub rows : ℕ
 
 -- seven bytes
 unfoldable pub head_bytes : Head → List ℕ

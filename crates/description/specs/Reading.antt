@@ -3,8 +3,7 @@ use Rattle.std.specs.Prelude.{◌≡◌, ℕ, ◌<◌, ◌≤◌, ◌⊎◌, Lis
 use Rattle.std.specs.List.{flat_map, AllByRecursion}
 use Rattle.mesh.specs.declared.joint.Joint.{Joint}
 use Rattle.description.specs.declared.step.Step.{Step}
-use Rattle.description.specs.declared.head.Head.{Head}
-use Rattle.description.specs.Format.{Contents, head_of, encoded, head_bytes, row_bytes, step_bytes}
+use Rattle.description.specs.Format.{Head, Contents, head_of, encoded, head_bytes, row_bytes, step_bytes}
 use Rattle.description.specs.Bounds.{HeadWithin, RowWithin, StepWithin}
 use Rattle.description.specs.Faults.{HeadFault, RowFault, StepFault}
 

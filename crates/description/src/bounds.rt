@@ -1,15 +1,10 @@
-ghost use Rattle.std.specs.Prelude.{Decides};
-ghost use Rattle.description.specs.Bounds.{HeadWithin, RowFits, RowWithin, WindowFits, WindowWithin, RangeFits, RangeWithin, StepFits, StepWithin};
+ghost use Rattle.std.specs.Prelude.{◌↔◌, IsTrue};
+ghost use Rattle.description.specs.Bounds.{HeadWithin, RowFits, RowWithin, WindowFits, RangeFits, RangeWithin};
+ghost use Rattle.description.specs.Parts.{held, FlatWithin};
 
 use crate::head::Head;
-use crate::step::{RangeStep, Step, WindowStep};
+use crate::step::{RangeStep, WindowStep};
 use mesh::Joint;
-
-/// The last scheme's number.
-const LAST_SCHEME: u8 = 5;
-
-/// The last scheme of the plane.
-const LAST_FLAT: u8 = 3;
 
 /// The most roots.
 const MOST_ROOTS: u16 = 256;
@@ -25,11 +20,9 @@ const FARTHEST: u32 = 262_144;
 
 impl Head {
     pub(crate) fn is_within(&self) -> bool
-        ensures { Decides result (HeadWithin self.now) }
+        ensures { IsTrue result ↔ HeadWithin (held self.now) }
     {
-        1 <= self.scheme
-            && self.scheme <= LAST_SCHEME
-            && 1 <= self.roots
+        1 <= self.roots
             && self.roots <= MOST_ROOTS
             && self.level <= DEEPEST
             && self.limit <= DEEPEST
@@ -38,20 +31,17 @@ impl Head {
 }
 
 pub(crate) fn is_row_within(row: &Joint) -> bool
-    requires { RowFits row.now }
-    ensures { Decides result (RowWithin row.now) }
+    ensures { RowFits row.now → (IsTrue result ↔ RowWithin row.now) }
 {
     row.turn <= 1
 }
 
 impl WindowStep {
-    /// A window is for lines, squares and triangles.
-    fn is_within(&self, scheme: u8) -> bool
-        requires { WindowFits self.now }
-        ensures { Decides result (WindowWithin scheme self.now) }
+    /// Is it granted in the plane?
+    pub(crate) fn is_within(&self) -> bool
+        ensures { WindowFits self.now → (IsTrue result ↔ FlatWithin self.now) }
     {
-        scheme <= LAST_FLAT
-            && self.target <= DEEPEST
+        self.target <= DEEPEST
             && self.x0 <= self.x1
             && self.y0 <= self.y1
             && self.x1 <= FARTHEST
@@ -60,23 +50,9 @@ impl WindowStep {
 }
 
 impl RangeStep {
-    fn is_within(&self) -> bool
-        requires { RangeFits self.now }
-        ensures { Decides result (RangeWithin self.now) }
+    pub(crate) fn is_within(&self) -> bool
+        ensures { RangeFits self.now → (IsTrue result ↔ RangeWithin self.now) }
     {
         self.target <= DEEPEST && self.first <= self.last
-    }
-}
-
-impl Step {
-    pub(crate) fn is_within(&self, scheme: u8) -> bool
-        requires { StepFits self.now }
-        ensures { Decides result (StepWithin scheme self.now) }
-    {
-        match self {
-            Step::Window(window) => window.is_within(scheme),
-            Step::Range(range) => range.is_within(),
-            Step::Balance => true,
-        }
     }
 }

@@ -6,14 +6,13 @@ mod bounds;
 mod description;
 mod head;
 mod lists;
-mod numbers;
+mod part;
 mod parts;
 mod reader;
 mod reading;
 mod refusal;
 mod shape;
 mod step;
-mod values;
 
 pub use description::Description;
 pub use reading::read;

@@ -1,12 +1,13 @@
 ghost use Rattle.std.specs.Prelude.{◌≡◌, ◌⊎◌, MatchResult};
 ghost use Rattle.description.specs.Told.{told};
-ghost use Rattle.description.specs.Format.{step_bytes};
+ghost use Rattle.description.specs.Format.{scheme_of, step_bytes};
 ghost use Rattle.description.specs.Bounds.{StepWithin};
 ghost use Rattle.description.specs.Faults.{StepFault};
 ghost use Rattle.description.specs.Parts.{RowsRead, RowsStopped, StepsRead, Stopped};
 
 use crate::reader::Reader;
 use crate::refusal::Refusal;
+use crate::shape::Shape;
 use crate::step::Step;
 use mesh::Joint;
 use std::alloc::Global;
@@ -18,19 +19,18 @@ impl<'a> Reader<'a> {
     {
         let mut joints = Vec::new(heap);
         for _ in 0..count {
-            let joint = self.row()?;
+            let joint = self.part::<7, Joint>(self.at)?;
             joints.push(joint)?;
         }
         Ok(joints)
     }
 
     /// The steps, to the end of the input.
-    pub(crate) fn steps(&mut self, heap: Global, scheme: u8) -> Result<Vec<Step>, Refusal>
-        ensures { MatchResult result (λ v. StepsRead scheme self.old v.items) (λ e. (told e ≡ (17, 0)) ⊎ Stopped step_bytes (StepWithin scheme) (StepFault scheme) self.old (told e)) }
+    pub(crate) fn steps(&mut self, heap: Global, shape: Shape) -> Result<Vec<Step>, Refusal>
+        ensures { MatchResult result (λ v. StepsRead (scheme_of shape) self.old v.items) (λ e. (told e ≡ (17, 0)) ⊎ Stopped step_bytes (StepWithin (scheme_of shape)) (StepFault (scheme_of shape)) self.old (told e)) }
     {
         let mut steps = Vec::new(heap);
-        while self.rest() > 0 {
-            let step = self.step(scheme)?;
+        while let Some(step) = self.step(shape)? {
             steps.push(step)?;
         }
         Ok(steps)

@@ -3,7 +3,7 @@ ghost use Rattle.description.specs.Outcome.{Answered, Bounded};
 ghost use Rattle.description.specs.Theorems.{OneReading, SomeReading, TwoLinesEncoded};
 
 use crate::description::Description;
-use crate::head::shape_of;
+use crate::head::Head;
 use crate::reader::Reader;
 use crate::refusal::Refusal;
 use std::alloc::Global;
@@ -29,11 +29,11 @@ pub fn read(heap: Global, bytes: &[u8]) -> Result<Description, Refusal>
         return Err(Refusal::TooLong);
     }
     let mut reader = Reader::new(bytes);
-    let head = reader.head()?;
+    let head = reader.part::<7, Head>(0)?;
     let joints = reader.rows(heap, head.rows)?;
-    let steps = reader.steps(heap, head.scheme)?;
+    let steps = reader.steps(heap, head.shape)?;
     Ok(Description {
-        shape: shape_of(head.scheme),
+        shape: head.shape,
         roots: head.roots,
         level: head.level,
         limit: head.limit,

@@ -17,7 +17,7 @@ returns-in_err-joint c =
 pub loop-preserved : goal.loop-preserved
 loop-preserved c =
     let h = c.in_ok-joint.ensures in
-    rows_more _ _ _ _ {r'' = c.row.new.self} c.loop.invariant h.0 h.1 (pushed (_ ∷ []) refl c.in_ok-push.was c.push.ensures.items)
+    rows_more _ _ _ _ {r'' = c.part.new.self} c.loop.invariant h.0 h.1 (pushed (_ ∷ []) refl c.in_ok-push.was c.push.ensures.items)
 
 pub returns : goal.returns
 returns c =
