@@ -1,6 +1,5 @@
 -- A number of n bytes and its bytes tell each other.
-use Rattle.std.proofs.Common.{◌≡◌, ℕ, zero, suc, ◌+◌, ◌*◌, ◌/◌, ◌%◌, ◌^◌, ◌<◌, ◌≤◌, List, [], ◌∷◌, ◌++◌, length, sym, refl, ◌∙◌, div-lt_iff_lt-mul, pow-suc, div-add-mod', add-one, arith, length-append}
-use native.Mathlib.Nat.{pow-le-pow_right}
+use Rattle.std.proofs.Common.{◌≡◌, ℕ, zero, suc, ◌+◌, ◌*◌, ◌/◌, ◌%◌, ◌^◌, ◌<◌, List, [], ◌∷◌, ◌++◌, length, sym, refl, ◌∙◌, div-lt_iff_lt-mul, pow-suc, div-add-mod', add-one, arith, length-append}
 use lib.Arith.{digits_lt, digits_div, digits_mod}
 use Rattle.std.proofs.lemmas.List.{same_from_push}
 use Rattle.description.specs.Format.{be}
@@ -47,9 +46,3 @@ pub field : (n x y : ℕ) {r s : List ℕ} → x < 256 ^ n → y < 256 ^ n → b
 field n x y {r} {s} hx hy e =
     let p = front_one (be n x) (be n y) r s (length_be n x ∙ sym (length_be n y)) e in
     (be_one n x y hx hy p.0, p.1)
-
--- below eight bytes there is room for one more
-pub room : (n x b : ℕ) → n < 8 → x < 256 ^ n → b < 256 → x * 256 + b < 2 ^ 64
-room n x b h hx hb =
-    let big : 256 ^ suc n ≤ 256 ^ 8 = pow-le-pow_right {n = 256} (omega arith) h in
-    omega (arith, digits_lt hx hb, pow-suc 256 n)

@@ -1,5 +1,5 @@
 -- A step's tag, and the value after it.
-use Rattle.std.proofs.Common.{◌≡◌, ℕ, ◌<◌, ◌≤◌, ◌⊎◌, List, [], ◌∷◌, ◌++◌, length, sym, refl, ap, ◌∙◌, subst, inl, inr, arith, lit≤}
+use Rattle.std.proofs.Common.{◌≡◌, ℕ, ◌≤◌, ◌⊎◌, List, [], ◌∷◌, ◌++◌, length, sym, refl, ap, ◌∙◌, subst, inl, inr, arith, lit≤}
 use Rattle.description.specs.declared.reader.Reader.{Reader}
 use Rattle.description.specs.declared.step.WindowStep.{WindowStep}
 use Rattle.description.specs.declared.step.RangeStep.{RangeStep}

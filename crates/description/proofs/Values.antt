@@ -1,16 +1,13 @@
 -- The values that bytes hold.
-use Rattle.std.proofs.Common.{rules, ◌↔◌, inl, inr, Some, None, Ok, Err, Result, Bool, true, false, MatchOption, ◌≡◌, ℕ, zero, suc, ◌+◌, ◌*◌, ◌/◌, ◌%◌, ◌^◌, ◌<◌, ◌≤◌, List, [], ◌∷◌, ◌++◌, length, get_or, sym, refl, ap, ◌∙◌, arith, pow-suc}
+use Rattle.std.proofs.Common.{rules, ◌↔◌, inl, inr, Some, None, Ok, Err, Result, Bool, true, false, MatchOption, ◌≡◌, ℕ, zero, suc, ◌+◌, ◌/◌, ◌%◌, ◌^◌, ◌<◌, List, [], ◌∷◌, ◌++◌, length, get_or, sym, refl, ap, ◌∙◌, arith, pow-suc}
 use Rattle.std.proofs.Math.Nat.{div-div-eq-div-mul, mul_comm}
 use Rattle.std.specs.Prelude.{IsTrue}
 use Rattle.std.specs.Bool.{then_some}
 use Rattle.std.specs.Result.{result_ok}
 use Rattle.std.specs.Int.{IsOutOfRange, w16, w32, w64, byte_at, bytes_high_first, from_be_bytes}
 use Rattle.std.proofs.lemmas.Nat.{be_bytes_2, be_bytes_4, be_bytes_8}
-use Rattle.mesh.specs.declared.joint.Joint.{Joint}
 use Rattle.description.specs.declared.shape.Shape.{Shape}
 use Rattle.description.specs.declared.shape.UnknownScheme.{UnknownScheme}
-use Rattle.description.specs.declared.step.WindowStep.{WindowStep}
-use Rattle.description.specs.declared.step.RangeStep.{RangeStep}
 use Rattle.description.specs.Format.{Head, Decodes, scheme_of, be, head_bytes, row_bytes, window_bytes, range_bytes}
 use Rattle.description.specs.Bounds.{HeadFits, HeadWithin, RowFits, WindowFits, RangeFits}
 use Rattle.description.specs.Faults.{Beyond}
@@ -30,10 +27,6 @@ items_fit : (n : ℕ) (f : ℕ → ℕ) → ((i : ℕ) → f i < 256) → (i : �
 items_fit zero f h i = omega arith
 items_fit (suc n) f h zero = h 0
 items_fit (suc n) f h (suc i) = items_fit n (λ i. f (suc i)) (λ i. h (suc i)) i
-
-length_items : (n : ℕ) (f : ℕ → ℕ) → length (items n f) ≡ n
-length_items zero f = refl
-length_items (suc n) f = ap suc (length_items n (λ i. f (suc i)))
 
 byte_on : (k x : ℕ) → byte_at k (x / 256) ≡ byte_at (suc k) x
 byte_on zero x = refl

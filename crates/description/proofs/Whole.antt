@@ -1,47 +1,30 @@
 -- The head, the rows and the steps, read one after another, make a reading of the whole input.
-use Rattle.std.proofs.Common.{◌≡◌, ℕ, ◌≤◌, ◌⊎◌, List, ◌++◌, length, drop, IsErrAnd, IfOk, vec_items, Result, sym, ap, ◌∙◌, subst, inl, inr, append_assoc, arith, length-append}
-use Rattle.std.specs.List.{flat_map, AllByRecursion}
-use Rattle.std.proofs.ByRecursion.{All-weaker}
+use Rattle.std.proofs.Common.{◌≡◌, ℕ, ◌≤◌, ◌⊎◌, List, ◌++◌, length, drop, IsErrAnd, Result, sym, ap, ◌∙◌, inl, inr, append_assoc, arith, length-append}
+use Rattle.std.specs.List.{flat_map}
 use Rattle.std.proofs.lemmas.Result.{err_from_is_err_and}
 use Rattle.mesh.specs.declared.joint.Joint.{Joint}
-use Rattle.description.specs.declared.step.Step.{Step}
 use Rattle.description.specs.declared.reader.Reader.{Reader}
 use Rattle.description.specs.declared.refusal.Refusal.{Refusal}
 use Rattle.description.specs.declared.description.Description.{Description}
 use Rattle.description.specs.Told.{told}
-use Rattle.description.specs.Format.{Head, contents, head_bytes, row_bytes, step_bytes}
-use Rattle.description.specs.Bounds.{HeadWithin, RowWithin, StepWithin}
-use Rattle.description.specs.Faults.{HeadFault, StepFault}
-use Rattle.description.specs.Reading.{refused, Granted, Reads}
-use Rattle.description.specs.Outcome.{Answered, Bounded}
+use Rattle.description.specs.Format.{Head, head_bytes, row_bytes, step_bytes}
+use Rattle.description.specs.Bounds.{HeadWithin, StepWithin}
+use Rattle.description.specs.Faults.{StepFault}
+use Rattle.description.specs.Reading.{refused, Reads}
+use Rattle.description.specs.Outcome.{Answered}
 use Rattle.description.specs.Passing.{left, Passed}
-use Rattle.description.specs.Parts.{RowsRead, RowsStopped, StepsRead, Stopped}
+use Rattle.description.specs.Parts.{RowsRead, RowsStopped, Stopped}
 
 -- the exit of a `?`
-pub refuses : (bytes : List ℕ) (r : Result Description Refusal) (e : Refusal) → IsErrAnd r (λ y. y ≡ e) → (told e ≡ (17, 0)) ⊎ Reads bytes (refused (told e).0 (told e).1) → Answered bytes r × IfOk r Bounded
+pub refuses : (bytes : List ℕ) (r : Result Description Refusal) (e : Refusal) → IsErrAnd r (λ y. y ≡ e) → (told e ≡ (17, 0)) ⊎ Reads bytes (refused (told e).0 (told e).1) → Answered bytes r
 refuses bytes r e by q =
     let p = err_from_is_err_and r by in
-    rw (p.1, p.2) (q, tt)
-
-pub bounded : (bytes : List ℕ) (d : Description) → Granted bytes (contents d) → Bounded d
-bounded bytes d g = record {
-  roots_from = g.head.roots_from;
-  roots_to = g.head.roots_to;
-  level_to = g.head.level_to;
-  limit_to = g.head.limit_to;
-  joints_to = g.head.rows_to;
-  turns_to = All-weaker RowWithin (λ j. j.turn ≤ 1) (λ j w. w.turn_to) (vec_items d.joints) g.rows;
-  steps_within = g.steps;
-}
+    rw (p.1, p.2) q
 
 -- the reader r stands at the start of the input
 module _ (bytes : List ℕ) (short : length bytes ≤ 8192) (r : Reader) (start : r.at ≡ 0) (input : r.bytes.now ≡ bytes) where
   whole : left r ≡ bytes
   whole = ap (λ (n : ℕ). drop n r.bytes.now) start ∙ input
-
-  pub at_head : (e : ℕ × ℕ) → e.1 ≡ 0 → HeadFault e.0 (left r) → Reads bytes (refused e.0 e.1)
-  at_head e place fault =
-      inr (inl record { short = short; place = place; fault = subst (λ (z : List ℕ). HeadFault e.0 z) whole fault })
 
   module _ (h : Head) (within : HeadWithin h) {r' : Reader} (head : Passed r r' (head_bytes h)) where
     at_row : (e : ℕ × ℕ) → RowsStopped h.rows r' e → Reads bytes (refused e.0 e.1)
@@ -100,17 +83,3 @@ module _ (bytes : List ℕ) (short : length bytes ≤ 8192) (r : Reader) (start 
           (e ≡ (17, 0)) ⊎ Reads bytes (refused e.0 e.1)
       step_or_memory e (inl m) = inl m
       step_or_memory e (inr s) = inr (at_step e s)
-
-      pub all_read : (steps : List Step) → StepsRead h.scheme r'' steps → (scheme : ℕ) → scheme ≡ h.scheme →
-          Granted bytes record { scheme = scheme; roots = h.roots; level = h.level; limit = h.limit; joints = rows; steps = steps }
-      all_read steps s scheme e = record {
-        short = short;
-        head = subst HeadWithin (sym same) within;
-        rows = done.within;
-        steps = subst (λ (z : ℕ). AllByRecursion (StepWithin z) steps) (sym e) s.within;
-        whole = before ∙ ap (λ (z : List ℕ). head_bytes h ++ flat_map row_bytes rows ++ z) s.split ∙
-            ap (λ (z : Head). head_bytes z ++ flat_map row_bytes rows ++ flat_map step_bytes steps) (sym same);
-      }
-        where
-          same : ◌≡◌ {A = Head} (record { scheme = scheme; roots = h.roots; level = h.level; limit = h.limit; rows = length rows }) h
-          same = λ i. record { scheme = e i; roots = h.roots; level = h.level; limit = h.limit; rows = done.count_is i }

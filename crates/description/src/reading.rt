@@ -1,4 +1,4 @@
-ghost use Rattle.std.specs.Prelude.{◌≡◌, length, IfOk, nat_lt};
+ghost use Rattle.std.specs.Prelude.{◌<◌, ◌↔◌, length, IfOk, IsTrue};
 ghost use Rattle.description.specs.Outcome.{Answered, Bounded};
 ghost use Rattle.description.specs.Theorems.{OneReading, SomeReading, TwoLinesEncoded};
 
@@ -12,18 +12,14 @@ const LONGEST: usize = 8192;
 
 /// Is the input longer than a description may be?
 fn is_too_long(bytes: &[u8]) -> bool
-    ensures { result ≡ nat_lt 8192 (length bytes.now) }
+    ensures { IsTrue result ↔ (8192 < length bytes.now) }
 {
     bytes.len() > LONGEST
 }
 
-/// Reads the whole input: the description that it encodes, or the first fault in it.
-pub fn read(heap: Global, bytes: &[u8]) -> Result<Description, Refusal>
-    ensures answered { Answered bytes.now result }
-    ensures bounded { IfOk result Bounded }
-    ensures one { OneReading }
-    ensures some { SomeReading }
-    ensures example { TwoLinesEncoded }
+/// Reads part by part.
+fn read_parts(heap: Global, bytes: &[u8]) -> Result<Description, Refusal>
+    ensures { Answered bytes.now result }
 {
     if is_too_long(bytes) {
         return Err(Refusal::TooLong);
@@ -40,4 +36,15 @@ pub fn read(heap: Global, bytes: &[u8]) -> Result<Description, Refusal>
         joints,
         steps,
     })
+}
+
+/// Reads the whole input: the description that it encodes, or the first fault in it.
+pub fn read(heap: Global, bytes: &[u8]) -> Result<Description, Refusal>
+    ensures answered { Answered bytes.now result }
+    ensures bounded { IfOk result Bounded }
+    ensures one { OneReading }
+    ensures some { SomeReading }
+    ensures example { TwoLinesEncoded }
+{
+    read_parts(heap, bytes)
 }
