@@ -1,6 +1,7 @@
 -- Two lists of good parts, each in front of a rest, that are the same bytes: one is the other, or a front of it, and then its rest begins with a good part.
 use Rattle.std.proofs.Common.{◌≡◌, ℕ, ◌<◌, ◌⊎◌, List, [], ◌∷◌, ◌++◌, length, sym, refl, ◌∙◌, subst, inl, inr, append_assoc, arith}
-use Rattle.std.specs.List.{flat_map, AllByRecursion}
+use Rattle.std.specs.List.{All, flat_map}
+use Rattle.std.proofs.lemmas.List.Elements.{All-head, All-tail}
 use Rattle.description.specs.Faults.{Beyond}
 
 -- the bytes begin with a good part
@@ -28,17 +29,17 @@ module _ {V : Type 0} (bytes : V → List ℕ) (Fits Good : V → Type 0) (Early
   one_fault n m r (inl e) (inr q) = absurd (begun q.value q.more n (subst (λ (z : List ℕ). Early n z) q.begins e))
   one_fault n m r (inr o) (inl f) = absurd (begun o.value o.more m (subst (λ (z : List ℕ). Early m z) o.begins f))
 
-  pub compare : (xs ys : List V) (r s : List ℕ) → AllByRecursion Good xs → AllByRecursion Good ys → flat_map bytes xs ++ r ≡ flat_map bytes ys ++ s →
+  pub compare : (xs ys : List V) (r s : List ℕ) → All Good xs → All Good ys → flat_map bytes xs ++ r ≡ flat_map bytes ys ++ s →
       ((xs ≡ ys) × (r ≡ s)) ⊎ (((length xs < length ys) × Begun bytes Good r) ⊎ ((length ys < length xs) × Begun bytes Good s))
   compare [] [] r s gx gy e = inl (refl, e)
   compare [] (y ∷ ys) r s gx gy e =
-      inr (inl (omega arith, record { part = y; more = flat_map bytes ys ++ s; good = gy.0; begins = e ∙ append_assoc (bytes y) (flat_map bytes ys) s }))
+      inr (inl (omega arith, record { part = y; more = flat_map bytes ys ++ s; good = All-head Good y ys gy; begins = e ∙ append_assoc (bytes y) (flat_map bytes ys) s }))
   compare (x ∷ xs) [] r s gx gy e =
-      inr (inr (omega arith, record { part = x; more = flat_map bytes xs ++ r; good = gx.0; begins = sym e ∙ append_assoc (bytes x) (flat_map bytes xs) r }))
+      inr (inr (omega arith, record { part = x; more = flat_map bytes xs ++ r; good = All-head Good x xs gx; begins = sym e ∙ append_assoc (bytes x) (flat_map bytes xs) r }))
   compare (x ∷ xs) (y ∷ ys) r s gx gy e =
-      let p = one x y (flat_map bytes xs ++ r) (flat_map bytes ys ++ s) (fits x gx.0) (fits y gy.0)
+      let p = one x y (flat_map bytes xs ++ r) (flat_map bytes ys ++ s) (fits x (All-head Good x xs gx)) (fits y (All-head Good y ys gy))
       (sym (append_assoc (bytes x) (flat_map bytes xs) r) ∙ e ∙ append_assoc (bytes y) (flat_map bytes ys) s) in
-      lift p.0 (compare xs ys r s gx.1 gy.1 p.1)
+      lift p.0 (compare xs ys r s (All-tail Good x xs gx) (All-tail Good y ys gy) p.1)
     where
       lift : x ≡ y → ((xs ≡ ys) × (r ≡ s)) ⊎ (((length xs < length ys) × Begun bytes Good r) ⊎ ((length ys < length xs) × Begun bytes Good s)) →
           ((x ∷ xs ≡ y ∷ ys) × (r ≡ s)) ⊎ (((length (x ∷ xs) < length (y ∷ ys)) × Begun bytes Good r) ⊎ ((length (y ∷ ys) < length (x ∷ xs)) × Begun bytes Good s))

@@ -1,6 +1,6 @@
 -- Parts of one kind, one after another.
 use Rattle.std.proofs.Common.{◌≡◌, ℕ, ◌<◌, List, length, IsErrAnd, Result, ◌∙◌, arith, MatchResult}
-use Rattle.std.specs.List.{flat_map, AllByRecursion}
+use Rattle.std.specs.List.{All, flat_map}
 use Rattle.std.proofs.lemmas.Result.{err_from_is_err_and}
 use Rattle.mesh.specs.declared.joint.Joint.{Joint}
 use Rattle.description.specs.declared.reader.Reader.{Reader}
@@ -14,7 +14,7 @@ use Rattle.description.specs.Parts.{RowsRead, RowsStopped, Stopped}
 use Rattle.description.proofs.Passage.{fewer}
 
 -- the parts so far, and then a fault
-abbrev pub stop : {V : Type 0} (f : V → List ℕ) (Good : V → Type 0) (Fault : ℕ → List ℕ → Type 0) (xs : List V) {r r' : Reader} (e : ℕ × ℕ) → AllByRecursion Good xs → Passed r r' (flat_map f xs) → e.1 ≡ r'.at → Fault e.0 (left r') → Stopped f Good Fault r e
+abbrev pub stop : {V : Type 0} (f : V → List ℕ) (Good : V → Type 0) (Fault : ℕ → List ℕ → Type 0) (xs : List V) {r r' : Reader} (e : ℕ × ℕ) → All Good xs → Passed r r' (flat_map f xs) → e.1 ≡ r'.at → Fault e.0 (left r') → Stopped f Good Fault r e
 stop f Good Fault xs {r} {r'} e good p place fault =
     record { done = xs; rest = left r'; within = good; split = p.split; place = place ∙ p.next; fault = fault }
 

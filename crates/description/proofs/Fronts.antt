@@ -1,12 +1,16 @@
 -- Values at the front of a list of bytes: any bytes that are enough are those of some value.
 use Rattle.std.proofs.Common.{◌≡◌, ℕ, zero, suc, ◌+◌, ◌*◌, ◌^◌, ◌<◌, ◌≤◌, List, [], ◌∷◌, ◌++◌, length, sym, refl, ap, ◌∙◌, append_assoc, add-one, arith, length-append}
-use Rattle.std.specs.List.{AllByRecursion}
+use Rattle.std.specs.List.{All}
+use Rattle.std.proofs.lemmas.List.Elements.{All-tail}
 use Rattle.description.specs.Format.{be, head_bytes, row_bytes, window_bytes, range_bytes}
 use Rattle.description.specs.Bounds.{HeadFits, RowFits, WindowFits, RangeFits}
 use Rattle.description.proofs.Bytes.{length_be, be_push, fits_push}
 
 abbrev pub Bytes : List ℕ → Type 0
-Bytes bs = AllByRecursion (λ b. b < 256) bs
+Bytes bs = All (λ b. b < 256) bs
+
+pub bytes_after : (b : ℕ) (bs : List ℕ) → Bytes (b ∷ bs) → Bytes bs
+bytes_after b bs all = All-tail (λ b. b < 256) b bs all
 
 -- a list, and two that it is made of
 pub record Split (bs part rest : List ℕ) : Type 0 where
@@ -27,13 +31,13 @@ pub record Front {V : Type 0} (bytes : V → List ℕ) (P : V → Type 0) (bs : 
 number_more : (n x : ℕ) (bs rest : List ℕ) → x < 256 ^ n → bs ≡ be n x ++ rest → Bytes rest → suc n ≤ length bs → Front (be (suc n)) (λ x. x < 256 ^ suc n) bs
 number_more n x bs [] fits e all room = absurd (omega (arith, ap length e, length-append (be n x) [], length_be n x))
 number_more n x bs (b ∷ rest) fits e all room =
-    let push : be (suc n) (x * 256 + b) ≡ be n x ++ b ∷ [] = rw (add-one n) at (be_push n x b all.0) in
+    let push : be (suc n) (x * 256 + b) ≡ be n x ++ b ∷ [] = rw (add-one n) at (be_push n x b (all 0 0 (omega arith))) in
     record {
       value = x * 256 + b;
       rest = rest;
-      holds = rw (add-one n) at (fits_push n x b fits all.0);
+      holds = rw (add-one n) at (fits_push n x b fits (all 0 0 (omega arith)));
       split = record { is = e ∙ sym (append_assoc (be n x) (b ∷ []) rest) ∙ ap (λ (z : List ℕ). z ++ rest) (sym push) };
-      are_bytes = all.1;
+      are_bytes = bytes_after b rest all;
     }
 
 number_at : (n : ℕ) (bs : List ℕ) → Bytes bs → n ≤ length bs → Front (be n) (λ x. x < 256 ^ n) bs

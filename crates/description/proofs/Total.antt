@@ -1,6 +1,7 @@
 -- Every list of bytes has a reading.
 use Rattle.std.proofs.Common.{◌≡◌, ℕ, zero, suc, ◌<◌, ◌≤◌, ◌⊎◌, List, [], ◌∷◌, ◌++◌, length, sym, refl, ap, ◌∙◌, subst, inl, inr, append_assoc, append-nil, arith, length-append}
-use Rattle.std.specs.List.{flat_map, AllByRecursion}
+use Rattle.std.specs.List.{All, flat_map}
+use Rattle.std.proofs.lemmas.List.Elements.{All-nil, All-cons}
 use Rattle.std.proofs.lemmas.Bool.{cases_lt, cases_eq}
 use Rattle.description.specs.declared.step.Step.TheVariants.{Window, Range, Balance}
 use Rattle.description.specs.Format.{Head, be, head_bytes, row_bytes, window_bytes, range_bytes, step_bytes}
@@ -9,7 +10,7 @@ use Rattle.description.specs.Faults.{Cut, Beyond, TagFault, HeadFault, RowFault,
 use Rattle.description.specs.Reading.{Answer, granted, refused, Reads}
 use Rattle.description.specs.Theorems.{SomeReading}
 use Rattle.description.proofs.Following.{step_some}
-use Rattle.description.proofs.Fronts.{Bytes, on, Front, head_at, row_at, window_at, range_at}
+use Rattle.description.proofs.Fronts.{Bytes, bytes_after, on, Front, head_at, row_at, window_at, range_at}
 use Rattle.description.proofs.Deciding.{Known, head_known, row_known, step_known}
 
 -- a good part at the front, or a fault
@@ -42,15 +43,15 @@ unfolding step_bytes be
 tag_judged b bs all = elim (cases_eq b 6) [
   | inl e ↦ elim (cases_lt (length (b ∷ bs)) 20) [
     | inl lt ↦ inr (1, inr record { tag = b; more = bs; begins = refl; known = inl e; cut = record { number = refl; short = lt } })
-    | inr ge ↦ inl (windowed e (window_at bs all.1 (omega arith)))
+    | inr ge ↦ inl (windowed e (window_at bs (bytes_after b bs all) (omega arith)))
   ]
   | inr n₆ ↦ elim (cases_eq b 7) [
     | inl e ↦ elim (cases_lt (length (b ∷ bs)) 20) [
       | inl lt ↦ inr (1, inr record { tag = b; more = bs; begins = refl; known = inr e; cut = record { number = refl; short = lt } })
-      | inr ge ↦ inl (ranged e (range_at bs all.1 (omega arith)))
+      | inr ge ↦ inl (ranged e (range_at bs (bytes_after b bs all) (omega arith)))
     ]
     | inr n₇ ↦ elim (cases_eq b 8) [
-      | inl e ↦ inl record { value = Balance; rest = bs; holds = tt; split = record { is = ap (λ (z : ℕ). z ∷ bs) e }; are_bytes = all.1 }
+      | inl e ↦ inl record { value = Balance; rest = bs; holds = tt; split = record { is = ap (λ (z : ℕ). z ∷ bs) e }; are_bytes = (bytes_after b bs all) }
       | inr n₈ ↦ inr (2, inl record { number = refl; tag = b; more = bs; begins = refl; not_window = n₆; not_range = n₇; not_balance = n₈ })
     ]
   ]
@@ -66,19 +67,19 @@ tag_judged b bs all = elim (cases_eq b 6) [
 record Fronts {V : Type 0} (bytes : V → List ℕ) (Good : V → Type 0) (bs : List ℕ) : Type 0 where
   parts : List V
   rest : List ℕ
-  within : AllByRecursion Good parts
+  within : All Good parts
   split : bs ≡ flat_map bytes parts ++ rest
   are_bytes : Bytes rest
 
 abbrev none : {V : Type 0} (bytes : V → List ℕ) (Good : V → Type 0) (bs : List ℕ) → Bytes bs → Fronts bytes Good bs
-none bytes Good bs all = record { parts = []; rest = bs; within = tt; split = refl; are_bytes = all }
+none bytes Good bs all = record { parts = []; rest = bs; within = All-nil Good; split = refl; are_bytes = all }
 
 -- one in front of others
 abbrev more : {V : Type 0} (bytes : V → List ℕ) (Good : V → Type 0) (bs : List ℕ) (f : Front bytes Good bs) → Fronts bytes Good f.rest → Fronts bytes Good bs
 more bytes Good bs f fs = record {
   parts = f.value ∷ fs.parts;
   rest = fs.rest;
-  within = (f.holds, fs.within);
+  within = All-cons Good f.value fs.parts f.holds fs.within;
   split = f.split.is ∙ ap (λ (z : List ℕ). bytes f.value ++ z) fs.split ∙ sym (append_assoc (bytes f.value) (flat_map bytes fs.parts) fs.rest);
   are_bytes = fs.are_bytes;
 }
@@ -107,7 +108,7 @@ StepsJudged scheme bs =
 
 -- each step takes a byte at least
 steps_judged : (scheme fuel : ℕ) (bs : List ℕ) → length bs ≤ fuel → Bytes bs → StepsJudged scheme bs
-steps_judged scheme fuel [] room all = inl (none step_bytes (StepWithin scheme) [] tt, refl)
+steps_judged scheme fuel [] room all = inl (none step_bytes (StepWithin scheme) [] all, refl)
 steps_judged scheme zero (b ∷ bs) room all = absurd (omega arith)
 steps_judged scheme (suc fuel) (b ∷ bs) room all = elim (judge step_bytes StepFits (StepWithin scheme) TagFault (step_known scheme) (b ∷ bs) (tag_judged b bs all)) [
   | inr e ↦ inr (none step_bytes (StepWithin scheme) (b ∷ bs) all, e)

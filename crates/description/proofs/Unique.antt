@@ -1,6 +1,6 @@
 -- A list of bytes has at most one reading.
 use Rattle.std.proofs.Common.{◌≡◌, ℕ, ◌<◌, ◌≤◌, ◌⊎◌, List, [], ◌++◌, length, sym, refl, ap, ◌∙◌, subst, inl, inr, append_assoc, append-nil, arith, length-append}
-use Rattle.std.specs.List.{flat_map, AllByRecursion}
+use Rattle.std.specs.List.{All, flat_map}
 use Rattle.mesh.specs.declared.joint.Joint.{Joint}
 use Rattle.description.specs.declared.step.Step.{Step}
 use Rattle.description.specs.declared.step.Step.TheVariants.{Window, Range, Balance}
@@ -37,7 +37,7 @@ Ending h rows steps rest x =
 record Stepped (h : Head) (rows : List Joint) (bytes : List ℕ) (x : Answer) : Type 0 where
   steps : List Step
   rest : List ℕ
-  within : AllByRecursion (StepWithin h.scheme) steps
+  within : All (StepWithin h.scheme) steps
   split : bytes ≡ flat_map step_bytes steps ++ rest
   end : Ending h rows steps rest x
 
@@ -51,7 +51,7 @@ RowsEnding h rows rest x =
 record Rowed (h : Head) (bytes : List ℕ) (x : Answer) : Type 0 where
   rows : List Joint
   rest : List ℕ
-  within : AllByRecursion RowWithin rows
+  within : All RowWithin rows
   split : bytes ≡ flat_map row_bytes rows ++ rest
   end : RowsEnding h rows rest x
 

@@ -1,6 +1,5 @@
 -- What `read` answers, and what a caller may rest on.
-use Rattle.std.specs.Prelude.{◌≡◌, ℕ, ◌≤◌, ◌⊎◌, List, length, Ok, Err, vec_items, Result}
-use Rattle.std.specs.List.{AllByRecursion}
+use Rattle.std.specs.Prelude.{◌≡◌, ℕ, ◌≤◌, ◌⊎◌, List, length, Ok, Err, vec_items, Result, All}
 use Rattle.description.specs.declared.description.Description.{Description}
 use Rattle.description.specs.declared.refusal.Refusal.{Refusal}
 use Rattle.description.specs.Told.{told}
@@ -20,5 +19,5 @@ pub record Bounded (d : Description) : Type 0 where
   pub level_to : d.level ≤ 18
   pub limit_to : d.limit ≤ 18
   pub joints_to : length (vec_items d.joints) ≤ 1024
-  pub turns_to : AllByRecursion (λ j. j.turn ≤ 1) (vec_items d.joints)
-  pub steps_within : AllByRecursion (StepWithin (scheme_of d.shape)) (vec_items d.steps)
+  pub turns_to : All (λ j. j.turn ≤ 1) (vec_items d.joints)
+  pub steps_within : All (StepWithin (scheme_of d.shape)) (vec_items d.steps)

@@ -1,6 +1,6 @@
 -- What a reader answers where a part should begin.
-use Rattle.std.specs.Prelude.{◌≡◌, ℕ, ◌+◌, ◌<◌, List, [], ◌++◌, length, Option, Result, MatchOption, MatchResult}
-use Rattle.std.specs.List.{flat_map, AllByRecursion}
+use Rattle.std.specs.Prelude.{◌≡◌, ℕ, ◌+◌, ◌<◌, List, [], ◌++◌, length, Option, Result, MatchOption, MatchResult, All}
+use Rattle.std.specs.List.{flat_map}
 use Rattle.mesh.specs.declared.joint.Joint.{Joint}
 use Rattle.description.specs.declared.head.Head as code
 use Rattle.description.specs.declared.step.Step.{Step}
@@ -36,19 +36,19 @@ StepRead scheme r r' result =
 -- all the rows that the head promised, which it has passed
 pub record RowsRead (count : ℕ) (r r' : Reader) (rows : List Joint) : Type 0 where
   pub count_is : length rows ≡ count
-  pub within : AllByRecursion RowWithin rows
+  pub within : All RowWithin rows
   pub passed : Passed r r' (flat_map row_bytes rows)
 
 -- all the steps to the end of the input
 pub record StepsRead (scheme : ℕ) (r : Reader) (steps : List Step) : Type 0 where
-  pub within : AllByRecursion (StepWithin scheme) steps
+  pub within : All (StepWithin scheme) steps
   pub split : left r ≡ flat_map step_bytes steps
 
 -- some parts of one kind, and then bytes that are at fault
 pub record Stopped {V : Type 0} (bytes : V → List ℕ) (Good : V → Type 0) (Fault : ℕ → List ℕ → Type 0) (r : Reader) (told_at : ℕ × ℕ) : Type 0 where
   pub done : List V
   pub rest : List ℕ
-  pub within : AllByRecursion Good done
+  pub within : All Good done
   pub split : left r ≡ flat_map bytes done ++ rest
   pub place : told_at.1 ≡ r.at + length (flat_map bytes done)
   pub fault : Fault told_at.0 rest

@@ -1,6 +1,6 @@
 -- What reading a list of bytes comes to: a description that they are the bytes of, or what is at fault first.
-use Rattle.std.specs.Prelude.{◌≡◌, ℕ, ◌<◌, ◌≤◌, ◌⊎◌, List, ◌++◌, length}
-use Rattle.std.specs.List.{flat_map, AllByRecursion}
+use Rattle.std.specs.Prelude.{◌≡◌, ℕ, ◌<◌, ◌≤◌, ◌⊎◌, List, ◌++◌, length, All}
+use Rattle.std.specs.List.{flat_map}
 use Rattle.mesh.specs.declared.joint.Joint.{Joint}
 use Rattle.description.specs.declared.step.Step.{Step}
 use Rattle.description.specs.Format.{Head, Contents, head_of, encoded, head_bytes, row_bytes, step_bytes}
@@ -16,8 +16,8 @@ pub data Answer : Type 0 where
 pub record Granted (bytes : List ℕ) (c : Contents) : Type 0 where
   pub short : length bytes ≤ 8192
   pub head : HeadWithin (head_of c)
-  pub rows : AllByRecursion RowWithin c.joints
-  pub steps : AllByRecursion (StepWithin c.scheme) c.steps
+  pub rows : All RowWithin c.joints
+  pub steps : All (StepWithin c.scheme) c.steps
   pub whole : bytes ≡ encoded c
 
 pub record OverLong (bytes : List ℕ) (n at : ℕ) : Type 0 where
@@ -37,7 +37,7 @@ pub record AtRow (bytes : List ℕ) (n at : ℕ) : Type 0 where
   pub rows : List Joint
   pub rest : List ℕ
   pub head_within : HeadWithin head
-  pub rows_within : AllByRecursion RowWithin rows
+  pub rows_within : All RowWithin rows
   pub fewer : length rows < head.rows
   pub whole : bytes ≡ head_bytes head ++ flat_map row_bytes rows ++ rest
   pub place : at ≡ length (head_bytes head ++ flat_map row_bytes rows)
@@ -51,9 +51,9 @@ pub record AtStep (bytes : List ℕ) (n at : ℕ) : Type 0 where
   pub steps : List Step
   pub rest : List ℕ
   pub head_within : HeadWithin head
-  pub rows_within : AllByRecursion RowWithin rows
+  pub rows_within : All RowWithin rows
   pub all_rows : length rows ≡ head.rows
-  pub steps_within : AllByRecursion (StepWithin head.scheme) steps
+  pub steps_within : All (StepWithin head.scheme) steps
   pub whole : bytes ≡ head_bytes head ++ flat_map row_bytes rows ++ flat_map step_bytes steps ++ rest
   pub place : at ≡ length (head_bytes head ++ flat_map row_bytes rows ++ flat_map step_bytes steps)
   pub fault : StepFault head.scheme n rest

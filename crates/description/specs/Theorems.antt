@@ -1,6 +1,5 @@
 -- What is proved of the reading itself; the contract of `read` names each.
-use Rattle.std.specs.Prelude.{◌≡◌, ℕ, ◌<◌, List, [], ◌∷◌, ◌++◌, replicate}
-use Rattle.std.specs.List.{AllByRecursion}
+use Rattle.std.specs.Prelude.{◌≡◌, ℕ, ◌<◌, List, [], ◌∷◌, ◌++◌, replicate, All}
 use Rattle.description.specs.declared.step.Step.TheVariants.{Range}
 use Rattle.description.specs.Format.{Contents, encoded}
 use Rattle.description.specs.Reading.{Answer, Reads}
@@ -11,7 +10,7 @@ OneReading = (bytes : List ℕ) (x y : Answer) → Reads bytes x → Reads bytes
 
 -- and every list of bytes has one
 abbrev pub SomeReading : Type 0
-SomeReading = (bytes : List ℕ) → AllByRecursion (λ b. b < 256) bytes → (x : Answer) × Reads bytes x
+SomeReading = (bytes : List ℕ) → All (λ b. b < 256) bytes → (x : Answer) × Reads bytes x
 
 -- two roots of a line joined end to end, planted at level 1 up to level 2; then the first root's place 0 is refined to level 2
 abbrev pub two_lines : Contents
