@@ -19,7 +19,7 @@ impl<'a> Reader<'a> {
     {
         let mut joints = Vec::new(heap);
         for _ in 0..count {
-            let joint = self.part::<7, Joint>(self.at)?;
+            let joint = self.part(self.at)?;
             joints.push(joint)?;
         }
         Ok(joints)

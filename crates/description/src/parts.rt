@@ -7,7 +7,7 @@ use crate::part::Part;
 use crate::reader::Reader;
 use crate::refusal::Refusal;
 use crate::shape::Shape;
-use crate::step::{RangeStep, Step, WindowStep};
+use crate::step::Step;
 
 /// A window's tag.
 const WINDOW: u8 = 6;
@@ -40,14 +40,14 @@ impl<'a> Reader<'a> {
         // The tags stay numbers: an enum of them would be matched once, here, after one more match that makes it.
         let step = match tag {
             WINDOW => {
-                let window = self.part::<19, WindowStep>(at)?;
+                let window = self.part(at)?;
                 // A window is for the shapes of the plane.
                 if !shape.is_flat() {
                     return Err(Refusal::Outside { at });
                 }
                 Step::Window(window)
             }
-            RANGE => Step::Range(self.part::<19, RangeStep>(at)?),
+            RANGE => Step::Range(self.part(at)?),
             BALANCE => Step::Balance,
             _ => return Err(Refusal::UnknownTag { at }),
         };

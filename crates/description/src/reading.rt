@@ -25,7 +25,7 @@ fn read_parts(heap: Global, bytes: &[u8]) -> Result<Description, Refusal>
         return Err(Refusal::TooLong);
     }
     let mut reader = Reader::new(bytes);
-    let head = reader.part::<7, Head>(0)?;
+    let head: Head = reader.part(0)?;
     let joints = reader.rows(heap, head.rows)?;
     let steps = reader.steps(heap, head.shape)?;
     Ok(Description {
