@@ -1,6 +1,5 @@
 -- A number of n bytes and its bytes tell each other.
-use Rattle.std.proofs.Common.{◌≡◌, ℕ, zero, suc, ◌+◌, ◌*◌, ◌/◌, ◌%◌, ◌^◌, ◌<◌, List, [], ◌∷◌, ◌++◌, length, sym, refl, ◌∙◌, div-lt_iff_lt-mul, pow-suc, div-add-mod', add-one, arith, length-append}
-use lib.Arith.{digits_lt, digits_div, digits_mod}
+use Rattle.std.proofs.Common.{◌≡◌, ℕ, zero, suc, ◌/◌, ◌%◌, ◌^◌, ◌<◌, List, [], ◌∷◌, ◌++◌, length, sym, refl, ◌∙◌, div-lt_iff_lt-mul, pow-suc, div-add-mod', arith, length-append}
 use Rattle.std.proofs.lemmas.List.{same_from_push}
 use Rattle.description.specs.Format.{be}
 
@@ -8,14 +7,6 @@ pub length_be : (n x : ℕ) → length (be n x) ≡ n
 unfolding be
 length_be zero x = refl
 length_be (suc n) x = rw (length-append (be n (x / 256)) (x % 256 ∷ []), length_be n (x / 256)) (omega arith)
-
--- one byte more
-pub be_push : (n x b : ℕ) → b < 256 → be (n + 1) (x * 256 + b) ≡ be n x ++ b ∷ []
-unfolding be
-be_push n x b h = rw (add-one n) (rw (digits_div x h, digits_mod x h))
-
-pub fits_push : (n x b : ℕ) → x < 256 ^ n → b < 256 → x * 256 + b < 256 ^ (n + 1)
-fits_push n x b hx hb = rw (add-one n, pow-suc) (digits_lt hx hb)
 
 -- what fits n bytes is told by them
 pub be_one : (n x y : ℕ) → x < 256 ^ n → y < 256 ^ n → be n x ≡ be n y → x ≡ y

@@ -1,27 +1,21 @@
 -- Parts of one kind, one after another.
 use Rattle.std.proofs.Common.{◌≡◌, ℕ, ◌<◌, List, length, IsErrAnd, Result, ◌∙◌, arith, MatchResult}
-use Rattle.std.specs.List.{All, flat_map}
 use Rattle.std.proofs.lemmas.Result.{err_from_is_err_and}
 use Rattle.mesh.specs.declared.joint.Joint.{Joint}
 use Rattle.description.specs.declared.reader.Reader.{Reader}
 use Rattle.description.specs.declared.step.Step.{Step}
 use Rattle.description.specs.declared.step.Step.TheVariants.{Window, Range, Balance}
-use Rattle.description.specs.Format.{be, row_bytes, step_bytes}
-use Rattle.description.specs.Bounds.{RowWithin}
+use Rattle.description.specs.Format.{be, step_bytes}
 use Rattle.description.specs.Faults.{RowFault}
 use Rattle.description.specs.Passing.{left, Passed}
-use Rattle.description.specs.Parts.{RowsRead, RowsStopped, Stopped}
+use Rattle.description.specs.Parts.{RowsRead, RowsStopped}
 use Rattle.description.proofs.Passage.{fewer}
 
--- the parts so far, and then a fault
-abbrev pub stop : {V : Type 0} (f : V → List ℕ) (Good : V → Type 0) (Fault : ℕ → List ℕ → Type 0) (xs : List V) {r r' : Reader} (e : ℕ × ℕ) → All Good xs → Passed r r' (flat_map f xs) → e.1 ≡ r'.at → Fault e.0 (left r') → Stopped f Good Fault r e
-stop f Good Fault xs {r} {r'} e good p place fault =
-    record { done = xs; rest = left r'; within = good; split = p.split; place = place ∙ p.next; fault = fault }
-
+-- the rows so far, and then a fault
 pub rows_stop : (n count : ℕ) (xs : List Joint) {r r' : Reader} (e : ℕ × ℕ) → RowsRead n r r' xs → n < count → e.1 ≡ r'.at → RowFault e.0 (left r') → RowsStopped count r e
-rows_stop n count xs e so lt place fault =
+rows_stop n count xs {r} {r'} e so lt place fault =
     record {
-      stop = stop row_bytes RowWithin RowFault xs e so.within so.passed place fault;
+      stop = record { done = xs; rest = left r'; within = so.within; split = so.passed.split; place = place ∙ so.passed.next; fault = fault };
       fewer = omega (arith, so.count_is);
     }
 

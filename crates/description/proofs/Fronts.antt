@@ -1,10 +1,12 @@
 -- Values at the front of a list of bytes: any bytes that are enough are those of some value.
-use Rattle.std.proofs.Common.{◌≡◌, ℕ, zero, suc, ◌+◌, ◌*◌, ◌^◌, ◌<◌, ◌≤◌, List, [], ◌∷◌, ◌++◌, length, sym, refl, ap, ◌∙◌, append_assoc, add-one, arith, length-append}
+use Rattle.std.proofs.Common.{get_or, take, drop, inl, inr, ◌≡◌, ℕ, ◌<◌, ◌≤◌, List, ◌∷◌, ◌++◌, length, sym, refl, ap, ◌∙◌, append_assoc, arith}
 use Rattle.std.specs.List.{All}
-use Rattle.std.proofs.lemmas.List.Elements.{All-tail}
-use Rattle.description.specs.Format.{be, head_bytes, row_bytes, window_bytes, range_bytes}
+use Rattle.std.proofs.lemmas.List.Elements.{All-tail, All-take, All-drop}
+use Rattle.std.proofs.lemmas.Bool.{cases_lt}
+use Rattle.std.proofs.lemmas.List.{length-take-le, get_or_past, take-append-drop}
+use Rattle.description.specs.Format.{head_bytes, row_bytes, window_bytes, range_bytes}
 use Rattle.description.specs.Bounds.{HeadFits, RowFits, WindowFits, RangeFits}
-use Rattle.description.proofs.Bytes.{length_be, be_push, fits_push}
+use Rattle.description.proofs.Values.{Holds, head_holds, row_holds, window_holds, range_holds}
 
 abbrev pub Bytes : List ℕ → Type 0
 Bytes bs = All (λ b. b < 256) bs
@@ -28,95 +30,35 @@ pub record Front {V : Type 0} (bytes : V → List ℕ) (P : V → Type 0) (bs : 
   pub split : Split bs (bytes value) rest
   pub are_bytes : Bytes rest
 
-number_more : (n x : ℕ) (bs rest : List ℕ) → x < 256 ^ n → bs ≡ be n x ++ rest → Bytes rest → suc n ≤ length bs → Front (be (suc n)) (λ x. x < 256 ^ suc n) bs
-number_more n x bs [] fits e all room = absurd (omega (arith, ap length e, length-append (be n x) [], length_be n x))
-number_more n x bs (b ∷ rest) fits e all room =
-    let push : be (suc n) (x * 256 + b) ≡ be n x ++ b ∷ [] = rw (add-one n) at (be_push n x b (all 0 0 (omega arith))) in
-    record {
-      value = x * 256 + b;
-      rest = rest;
-      holds = rw (add-one n) at (fits_push n x b fits (all 0 0 (omega arith)));
-      split = record { is = e ∙ sym (append_assoc (be n x) (b ∷ []) rest) ∙ ap (λ (z : List ℕ). z ++ rest) (sym push) };
-      are_bytes = bytes_after b rest all;
-    }
+-- what holds of the first n bytes stands at the front
+front_of : {V : Type 0} (bytes : V → List ℕ) (P : V → Type 0) (n : ℕ) (bs : List ℕ) (v : V) → Bytes bs → Holds bytes P (take n bs) v → Front bytes P bs
+front_of bytes P n bs v all h = record {
+  value = v;
+  rest = drop n bs;
+  holds = h.fits;
+  split = record { is = sym (take-append-drop n bs) ∙ ap (λ (z : List ℕ). z ++ drop n bs) h.is };
+  are_bytes = All-drop (λ b. b < 256) n bs all;
+}
 
-number_at : (n : ℕ) (bs : List ℕ) → Bytes bs → n ≤ length bs → Front (be n) (λ x. x < 256 ^ n) bs
-unfolding be
-number_at zero bs all room = record { value = 0; rest = bs; holds = omega arith; split = record { is = refl }; are_bytes = all }
-number_at (suc n) bs all room =
-    let f = number_at n bs all (omega arith) in
-    number_more n f.value bs f.rest f.holds f.split.is f.are_bytes room
+-- each item of a list of bytes is a byte, and so is what is read past its end
+bytes_fit : (bs : List ℕ) → Bytes bs → (i : ℕ) → get_or bs i 0 < 256
+bytes_fit bs all i = elim (cases_lt i (length bs)) [
+  | inl lt ↦ all i 0 lt
+  | inr ge ↦ rw (get_or_past bs i 0 ge) (omega arith)
+]
 
--- a value at the front, with so many bytes after it
-record Roomy {V : Type 0} (bytes : V → List ℕ) (P : V → Type 0) (bs : List ℕ) (more : ℕ) : Type 0 where
-  front : Front bytes P bs
-  room : more ≤ length front.rest
-
-first : (n more : ℕ) (bs : List ℕ) → Bytes bs → n + more ≤ length bs → Roomy (be n) (λ x. x < 256 ^ n) bs more
-first n more bs all room =
-    let f = number_at n bs all (omega arith) in
-    record { front = f; room = omega (arith, ap length f.split.is, length-append (be n f.value) f.rest, length_be n f.value) }
-
--- and a number after it
-next : {V : Type 0} {bytes : V → List ℕ} {P : V → Type 0} {bs : List ℕ} (n more : ℕ) → Roomy bytes P bs (n + more) →
-    Roomy {V = V × ℕ} (λ p. bytes p.0 ++ be n p.1) (λ p. P p.0 × (p.1 < 256 ^ n)) bs more
-next n more a =
-    let b = first n more a.front.rest a.front.are_bytes a.room in
-    record {
-      front = record {
-        value = (a.front.value, b.front.value);
-        rest = b.front.rest;
-        holds = (a.front.holds, b.front.holds);
-        split = on a.front.split b.front.split;
-        are_bytes = b.front.are_bytes;
-      };
-      room = b.room;
-    }
+front_fit : (n : ℕ) (bs : List ℕ) → Bytes bs → (i : ℕ) → get_or (take n bs) i 0 < 256
+front_fit n bs all = bytes_fit (take n bs) (All-take (λ b. b < 256) n bs all)
 
 pub head_at : (bs : List ℕ) → Bytes bs → 7 ≤ length bs → Front head_bytes HeadFits bs
-unfolding head_bytes
-head_at bs all room =
-    let f = (next 2 0 (next 1 2 (next 1 3 (next 2 4 (first 1 6 bs all room))))).front in
-    record {
-      value = record { scheme = f.value.0.0.0.0; roots = f.value.0.0.0.1; level = f.value.0.0.1; limit = f.value.0.1; rows = f.value.1 };
-      rest = f.rest;
-      holds = record { scheme_fits = f.holds.0.0.0.0; roots_fit = f.holds.0.0.0.1; level_fits = f.holds.0.0.1; limit_fits = f.holds.0.1; rows_fit = f.holds.1 };
-      split = f.split;
-      are_bytes = f.are_bytes;
-    }
+head_at bs all room = front_of head_bytes HeadFits 7 bs _ all (head_holds (take 7 bs) (front_fit 7 bs all) (length-take-le 7 bs room) _ _ _ refl refl refl)
 
 pub row_at : (bs : List ℕ) → Bytes bs → 7 ≤ length bs → Front row_bytes RowFits bs
-unfolding row_bytes
-row_at bs all room =
-    let f = (next 1 0 (next 1 1 (next 2 2 (next 1 4 (first 2 5 bs all room))))).front in
-    record {
-      value = record { root = f.value.0.0.0.0; face = f.value.0.0.0.1; other_root = f.value.0.0.1; other_face = f.value.0.1; turn = f.value.1 };
-      rest = f.rest;
-      holds = record { root_fits = f.holds.0.0.0.0; face_fits = f.holds.0.0.0.1; other_root_fits = f.holds.0.0.1; other_face_fits = f.holds.0.1; turn_fits = f.holds.1 };
-      split = f.split;
-      are_bytes = f.are_bytes;
-    }
+row_at bs all room = front_of row_bytes RowFits 7 bs _ all (row_holds (take 7 bs) (front_fit 7 bs all) (length-take-le 7 bs room) _ _ refl refl)
 
 pub window_at : (bs : List ℕ) → Bytes bs → 19 ≤ length bs → Front window_bytes WindowFits bs
-unfolding window_bytes
 window_at bs all room =
-    let f = (next 4 0 (next 4 4 (next 4 8 (next 4 12 (next 1 16 (first 2 17 bs all room)))))).front in
-    record {
-      value = record { root = f.value.0.0.0.0.0; target = f.value.0.0.0.0.1; x0 = f.value.0.0.0.1; y0 = f.value.0.0.1; x1 = f.value.0.1; y1 = f.value.1 };
-      rest = f.rest;
-      holds = record { root_fits = f.holds.0.0.0.0.0; target_fits = f.holds.0.0.0.0.1; x0_fits = f.holds.0.0.0.1; y0_fits = f.holds.0.0.1; x1_fits = f.holds.0.1; y1_fits = f.holds.1 };
-      split = f.split;
-      are_bytes = f.are_bytes;
-    }
+    front_of window_bytes WindowFits 19 bs _ all (window_holds (take 19 bs) (front_fit 19 bs all) (length-take-le 19 bs room) _ _ _ _ _ refl refl refl refl refl)
 
 pub range_at : (bs : List ℕ) → Bytes bs → 19 ≤ length bs → Front range_bytes RangeFits bs
-unfolding range_bytes
-range_at bs all room =
-    let f = (next 8 0 (next 8 8 (next 1 16 (first 2 17 bs all room)))).front in
-    record {
-      value = record { root = f.value.0.0.0; target = f.value.0.0.1; first = f.value.0.1; last = f.value.1 };
-      rest = f.rest;
-      holds = record { root_fits = f.holds.0.0.0; target_fits = f.holds.0.0.1; first_fits = f.holds.0.1; last_fits = f.holds.1 };
-      split = f.split;
-      are_bytes = f.are_bytes;
-    }
+range_at bs all room = front_of range_bytes RangeFits 19 bs _ all (range_holds (take 19 bs) (front_fit 19 bs all) (length-take-le 19 bs room) _ _ _ refl refl refl)

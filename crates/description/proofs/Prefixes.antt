@@ -87,11 +87,11 @@ value_one Balance (Range v) r q fs ft e = let z : ◌≡◌ {A = ℕ} 8 7 = cc i
 pub step_one : (s t : Step) (r q : List ℕ) → StepFits s → StepFits t → step_bytes s ++ r ≡ step_bytes t ++ q → (s ≡ t) × (r ≡ q)
 step_one s t r q fs ft e = value_one s t r q fs ft (sym (step_front s r) ∙ e ∙ step_front t q)
 
-pub length_head : (h : Head) → length (head_bytes h) ≡ 7
+length_head : (h : Head) → length (head_bytes h) ≡ 7
 unfolding head_bytes be
 length_head h = refl
 
-pub length_row : (j : Joint) → length (row_bytes j) ≡ 7
+length_row : (j : Joint) → length (row_bytes j) ≡ 7
 unfolding row_bytes be
 length_row j = refl
 
@@ -104,11 +104,14 @@ unfolding range_bytes be
 length_range w = refl
 
 -- bytes that begin with a part are not cut off
+begun : {V : Type 0} (bytes : V → List ℕ) (size : ℕ) → ((v : V) → length (bytes v) ≡ size) → (v : V) (r : List ℕ) (n : ℕ) → Cut size n (bytes v ++ r) → ⊥
+begun bytes size long v r n c = omega (arith, c.short, length-append (bytes v) r, long v)
+
 pub head_begun : (h : Head) (r : List ℕ) (n : ℕ) → Cut 7 n (head_bytes h ++ r) → ⊥
-head_begun h r n c = omega (arith, c.short, length-append (head_bytes h) r, length_head h)
+head_begun = begun head_bytes 7 length_head
 
 pub row_begun : (j : Joint) (r : List ℕ) (n : ℕ) → Cut 7 n (row_bytes j ++ r) → ⊥
-row_begun j r n c = omega (arith, c.short, length-append (row_bytes j) r, length_row j)
+row_begun = begun row_bytes 7 length_row
 
 value_begun : (s : Step) (r : List ℕ) (n : ℕ) → TagFault n (tag s ∷ (value s ++ r)) → ⊥
 value_begun (Window w) r n (inl u) = let e : 6 ≡ u.tag = cc u.begins in u.not_window (sym e)

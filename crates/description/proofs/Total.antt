@@ -25,17 +25,19 @@ judge bytes Fits Good Early known bs (inl f) = elim (known f.value f.holds) [
   | inr bad ↦ inr (4, inr record { number = refl; value = f.value; more = f.rest; begins = f.split.is; fits = f.holds; beyond = bad })
 ]
 
-head_judged : (bs : List ℕ) → Bytes bs → Judged head_bytes HeadWithin HeadFault bs
-head_judged bs all = judge head_bytes HeadFits HeadWithin (Cut 7) head_known bs (elim (cases_lt (length bs) 7) [
+-- a part of n bytes is cut off, or a value of it stands at the front
+sized : {V : Type 0} (bytes : V → List ℕ) (Fits : V → Type 0) (n : ℕ) → ((bs : List ℕ) → Bytes bs → n ≤ length bs → Front bytes Fits bs) → (bs : List ℕ) → Bytes bs →
+    Judged bytes Fits (Cut n) bs
+sized bytes Fits n at bs all = elim (cases_lt (length bs) n) [
   | inl lt ↦ inr (1, record { number = refl; short = lt })
-  | inr ge ↦ inl (head_at bs all ge)
-])
+  | inr ge ↦ inl (at bs all ge)
+]
+
+head_judged : (bs : List ℕ) → Bytes bs → Judged head_bytes HeadWithin HeadFault bs
+head_judged bs all = judge head_bytes HeadFits HeadWithin (Cut 7) head_known bs (sized head_bytes HeadFits 7 head_at bs all)
 
 row_judged : (bs : List ℕ) → Bytes bs → Judged row_bytes RowWithin RowFault bs
-row_judged bs all = judge row_bytes RowFits RowWithin (Cut 7) row_known bs (elim (cases_lt (length bs) 7) [
-  | inl lt ↦ inr (1, record { number = refl; short = lt })
-  | inr ge ↦ inl (row_at bs all ge)
-])
+row_judged bs all = judge row_bytes RowFits RowWithin (Cut 7) row_known bs (sized row_bytes RowFits 7 row_at bs all)
 
 -- a step of a known tag that is not cut off, or what is amiss with it
 tag_judged : (b : ℕ) (bs : List ℕ) → Bytes (b ∷ bs) → Judged step_bytes StepFits TagFault (b ∷ bs)
