@@ -2,6 +2,8 @@ ghost use Rattle.std.specs.Prelude.{◌↔◌, IsTrue};
 ghost use Rattle.description.specs.Bounds.{HeadWithin, RowFits, RowWithin, WindowFits, RangeFits, RangeWithin};
 ghost use Rattle.description.specs.Parts.{held, FlatWithin};
 
+// A row, a window or a range within its bounds also fits its bytes, which its reader knows of the values that it hands on.
+
 use crate::head::Head;
 use crate::step::{RangeStep, WindowStep};
 use mesh::Joint;
