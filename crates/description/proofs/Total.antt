@@ -11,18 +11,18 @@ use Rattle.description.specs.Reading.{Answer, granted, refused, Reads}
 use Rattle.description.specs.Theorems.{SomeReading}
 use Rattle.description.proofs.Following.{step_some}
 use Rattle.description.proofs.Fronts.{Bytes, bytes_after, on, Front, head_at, row_at, window_at, range_at}
-use Rattle.description.proofs.Deciding.{Known, head_known, row_known, step_known}
+use Rattle.description.proofs.Deciding.{head_known, row_known, step_known}
 
 -- a good part at the front, or a fault
 abbrev Judged : {V : Type 0} → (V → List ℕ) → (V → Type 0) → (ℕ → List ℕ → Type 0) → List ℕ → Type 0
 Judged bytes Good Fault bs = Front bytes Good bs ⊎ ((n : ℕ) × Fault n bs)
 
-judge : {V : Type 0} (bytes : V → List ℕ) (Fits Good : V → Type 0) (Early : ℕ → List ℕ → Type 0) → ((v : V) → Fits v → Known (Good v)) →
+judge : {V : Type 0} (bytes : V → List ℕ) (Fits Good : V → Type 0) (Early : ℕ → List ℕ → Type 0) → ((v : V) → Fits v → Dec (Good v)) →
     (bs : List ℕ) → Judged bytes Fits Early bs → Judged bytes Good (λ n bs. Early n bs ⊎ Beyond bytes Fits Good n bs) bs
 judge bytes Fits Good Early known bs (inr e) = inr (e.0, inl e.1)
 judge bytes Fits Good Early known bs (inl f) = elim (known f.value f.holds) [
-  | inl good ↦ inl record { value = f.value; rest = f.rest; holds = good; split = f.split; are_bytes = f.are_bytes }
-  | inr bad ↦ inr (4, inr record { number = refl; value = f.value; more = f.rest; begins = f.split.is; fits = f.holds; beyond = bad })
+  | yes good ↦ inl record { value = f.value; rest = f.rest; holds = good; split = f.split; are_bytes = f.are_bytes }
+  | no bad ↦ inr (4, inr record { number = refl; value = f.value; more = f.rest; begins = f.split.is; fits = f.holds; beyond = bad })
 ]
 
 -- a part of n bytes is cut off, or a value of it stands at the front
