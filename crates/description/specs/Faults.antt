@@ -1,5 +1,5 @@
 -- How bytes are at fault, where a head, a row or a step should begin: n is the refusal's number.
-use Rattle.std.specs.Prelude.{◌≡◌, ℕ, ◌<◌, ◌⊎◌, List, ◌∷◌, ◌++◌, length}
+use Rattle.std.specs.Prelude.{◌≡◌, ◌≢◌, ℕ, ◌<◌, ◌⊎◌, List, ◌∷◌, ◌++◌, length}
 use Rattle.description.specs.Format.{head_bytes, row_bytes, step_bytes}
 use Rattle.description.specs.Bounds.{HeadFits, HeadWithin, RowFits, RowWithin, StepFits, StepWithin}
 
@@ -15,7 +15,7 @@ pub record Beyond {V : Type 0} (bytes : V → List ℕ) (Fits Within : V → Typ
   pub more : List ℕ
   pub begins : rest ≡ bytes value ++ more
   pub fits : Fits value
-  pub beyond : Within value → ⊥
+  pub beyond : ¬ (Within value)
 
 -- the bytes begin with a tag that no step has
 pub record Unknown (n : ℕ) (rest : List ℕ) : Type 0 where
@@ -23,9 +23,9 @@ pub record Unknown (n : ℕ) (rest : List ℕ) : Type 0 where
   pub tag : ℕ
   pub more : List ℕ
   pub begins : rest ≡ tag ∷ more
-  pub not_window : tag ≡ 6 → ⊥
-  pub not_range : tag ≡ 7 → ⊥
-  pub not_balance : tag ≡ 8 → ⊥
+  pub not_window : tag ≢ 6
+  pub not_range : tag ≢ 7
+  pub not_balance : tag ≢ 8
 
 -- the bytes begin with the tag of a window or a range, and are fewer than its twenty; a balance has its tag alone
 pub record CutStep (n : ℕ) (rest : List ℕ) : Type 0 where

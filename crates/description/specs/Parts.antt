@@ -57,3 +57,7 @@ pub record Stopped {V : Type 0} (bytes : V → List ℕ) (Good : V → Type 0) (
 pub record RowsStopped (count : ℕ) (r : Reader) (told_at : ℕ × ℕ) : Type 0 where
   pub stop : Stopped row_bytes RowWithin RowFault r told_at
   pub fewer : length stop.done < count
+
+-- some steps, and then bytes that are at fault as a step
+abbrev pub StepsStopped : ℕ → Reader → ℕ × ℕ → Type 0
+StepsStopped scheme r told_at = Stopped step_bytes (StepWithin scheme) (StepFault scheme) r told_at

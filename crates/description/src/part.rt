@@ -23,7 +23,9 @@ pub(crate) trait Part<const N: usize>: Copy {
 
     /// The part that the bytes hold, or nothing where a value is outside its bounds.
     fn of(bytes: &[u8; N]) -> Option<Self>
-        ensures { MatchOption result ((more : List ℕ) → outside 4 (bytes.now ++ more)) (λ part. within part × (bytes.now ≡ bytes_of part)) };
+        ensures { MatchOption result
+            ((more : List ℕ) → outside 4 (bytes.now ++ more))
+            (λ part. within part × (bytes.now ≡ bytes_of part)) };
 }
 
 impl Part<7> for Head {

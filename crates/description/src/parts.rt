@@ -20,10 +20,11 @@ const BALANCE: u8 = 8;
 
 /// One part: cut off, outside its bounds, or granted.
 impl<'a> Reader<'a> {
-    /// The part that the next bytes hold. A fault is told at `at`, where a step's tag stands before them.
+    /// The part that the next bytes hold. A fault of it is told at `at`: they may have a tag in front.
     pub(crate) fn part<const N: usize, P: Part<N>>(&mut self, at: usize) -> Result<P, Refusal>
         requires fits_memory { N < 2 ^ 63 }
-        ensures { PartRead P.bytes_of P.within (λ n rest. Cut N n rest ⊎ P.outside n rest) at self.old self.new result }
+        ensures { PartRead P.bytes_of P.within (λ n rest. Cut N n rest ⊎ P.outside n rest)
+            at self.old self.new result }
     {
         let bytes = self.take().ok_or(Refusal::CutOff { at })?;
         P::of(bytes).ok_or(Refusal::Outside { at })
