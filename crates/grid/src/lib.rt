@@ -1,9 +1,13 @@
-//! What squares and triangles share: the deepest level, lengths in ticks, how many cells there are, and turning an edge over.
+//! What the flat shapes share: levels, lengths in ticks, how many cells there are, and turning an edge over.
 
 #![tactic(auto)]
 
 mod counts;
 mod lengths;
+mod level;
+mod place;
 
 pub use counts::{places, row_length, turned_over};
-pub use lengths::{DEPTH, ticks};
+pub use lengths::ticks;
+pub use level::{DEPTH, Level};
+pub use place::Place;

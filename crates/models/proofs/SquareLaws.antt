@@ -6,7 +6,7 @@ use Rattle.scheme.specs.declared.crossing.Crossing.{Crossing}
 use Rattle.scheme.specs.declared.crossing.Crossing.TheVariants.{Inside, Edge}
 use Rattle.scheme.specs.Scheme.{Belongs, Lawful, Bounded}
 use Rattle.models.specs.Square.{square, square_x, square_y, square_across, square_rim, square_at_edge, square_on_face}
-use Rattle.models.specs.Turning.{turn_over}
+use Rattle.grid.specs.Turning.{turn_over}
 use Rattle.models.proofs.SquareCells.{x_lt, y_lt, at_lt, x_child, y_child, place_back, x_back, y_back}
 use Rattle.models.proofs.Weaving.{last_lt}
 

@@ -5,7 +5,7 @@ use Rattle.std.proofs.lemmas.Bool.Decides.{nat_tests}
 use Rattle.scheme.specs.declared.crossing.Crossing.{Crossing}
 use Rattle.scheme.specs.declared.crossing.Crossing.TheVariants.{Inside, Edge}
 use Rattle.scheme.specs.Scheme.{Belongs, Lawful, Bounded}
-use Rattle.models.specs.Turning.{turn_over}
+use Rattle.grid.specs.Turning.{turn_over}
 use Rattle.models.specs.Triangle.{triangle, triangle_type, triangle_x, triangle_y, triangle_across, triangle_rim, triangle_at_edge, triangle_on_face}
 use Rattle.models.proofs.TriangleCells.{is_cell, type_lt, at_lt, x_child, y_child, type_child, place_back, cell_back}
 use Rattle.models.proofs.Weaving.{last_lt}

@@ -1,4 +1,3 @@
-pub mod Turning
 pub mod Corners
 pub mod Square
 pub mod Triangle

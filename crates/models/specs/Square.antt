@@ -6,7 +6,7 @@ use Rattle.scheme.specs.Scheme.{Model, Belongs}
 use Rattle.scheme.specs.Plan.{Plan, side}
 use Rattle.models.specs.declared.anchor.Anchor.{Anchor}
 use Rattle.models.specs.Corners.{corners_on}
-use Rattle.models.specs.Turning.{turn_over}
+use Rattle.grid.specs.Turning.{turn_over}
 
 -- level, place: bit 2i of the place is bit i of x, bit 2i + 1 is bit i of y
 unfoldable pub square_x : ℕ → ℕ → ℕ

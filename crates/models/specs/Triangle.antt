@@ -6,7 +6,7 @@ use Rattle.scheme.specs.Scheme.{Model, Belongs}
 use Rattle.scheme.specs.Plan.{Plan, side}
 use Rattle.models.specs.declared.anchor.Anchor.{Anchor}
 use Rattle.models.specs.Corners.{corners_on}
-use Rattle.models.specs.Turning.{turn_over}
+use Rattle.grid.specs.Turning.{turn_over}
 
 -- the parent's type, child number: the child's dx, dy and type
 abbrev pub triangle_child : ℕ → ℕ → ℕ × ℕ × ℕ
