@@ -1,6 +1,8 @@
+//! The line, the simplest flat scheme: what it means, the proofs of its laws, and its code.
+
 #![tactic(auto)]
 
 mod line;
-mod ticks;
+mod stretch;
 
 pub use line::Line;

@@ -1,10 +1,12 @@
-ghost use Rattle.std.specs.Prelude.{◌≡◌, [], ◌∷◌, refl};
-ghost use Rattle.shapes.specs.Segment.{line as line_meaning, line_plan, line_corner, LineShares, LineFaceChildKeeps, LineExamples, AllEdgesBreakTheLaws};
+ghost use Rattle.std.specs.Prelude.{◌≡◌, replicate, unwrap_or, refl};
+ghost use Rattle.scheme.specs.Plan.{outline_of};
+ghost use Rattle.shapes.specs.Segment.{line as line_meaning, line_plan, LineShares, LineFaceChildKeeps, LineExamples, AllEdgesBreakTheLaws};
 ghost use Rattle.std.proofs.Common.{lit≤};
 ghost use Rattle.shapes.specs.LineLaws.{line_lawful};
 ghost use Rattle.shapes.specs.LineOnPlan.{line_nested, line_flat, line_agrees};
 
-use crate::ticks::{DEPTH, ticks};
+use crate::stretch::Stretch;
+use grid::{DEPTH, Level};
 use scheme::{Crossing, Flat, Scheme};
 
 /// The digit width of the line: a cell has two children.
@@ -47,45 +49,31 @@ impl Scheme for Line {
     }
 
     fn across(&self, level: u8, place: u64, face: u8) -> Option<Crossing> {
-        if level > DEPTH || face >= FACES {
-            return None;
+        let stretch = Stretch::new(level, place)?;
+        match face {
+            0 if place == 0 => Some(Crossing::Edge(0, 0)),
+            0 => Some(Crossing::Inside((place - 1, 1))),
+            1 if stretch.is_last() => Some(Crossing::Edge(1, 0)),
+            1 => Some(Crossing::Inside((place + 1, 0))),
+            _ => None,
         }
-        let cells = 1u64 << level;
-        if place >= cells {
-            return None;
-        }
-        if face == 0 {
-            if place == 0 {
-                return Some(Crossing::Edge(0, 0));
-            }
-            return Some(Crossing::Inside((place - 1, 1)));
-        }
-        if place + 1 == cells {
-            return Some(Crossing::Edge(1, 0));
-        }
-        Some(Crossing::Inside((place + 1, 0)))
     }
 
     fn at_edge(&self, level: u8, face: u8, number: u64) -> Option<(u64, u8)> {
-        if level > DEPTH || face >= FACES || number >= 1 {
-            return None;
-        }
-        if face == 0 {
-            Some((0, 0))
-        } else {
-            Some(((1u64 << level) - 1, 1))
+        let level = Level::new(level)?;
+        match (face, number) {
+            (0, 0) => Some((0, 0)),
+            (1, 0) => Some((u64::from(level.row_length()) - 1, 1)),
+            _ => None,
         }
     }
 
     fn face_child(&self, level: u8, place: u64, face: u8, number: u8) -> Option<(u8, u8)> {
-        if level >= DEPTH || face >= FACES || number >= 1 {
+        let stretch = Stretch::new(level, place)?;
+        if stretch.level.number >= DEPTH || face >= FACES || number >= 1 {
             return None;
         }
-        if place < 1u64 << level {
-            Some((face, face))
-        } else {
-            None
-        }
+        Some((face, face))
     }
 
     fn sort(&self, face: u8) -> Option<u8> {
@@ -101,19 +89,17 @@ impl Scheme for Line {
     }
 }
 
-/// The corners of a line's cell, both with y 0.
-fn ends(level: u8, place: u64) -> [(u32, u32); 4]
-    ensures { result ≡ line_corner 18 level place 0 ∷ line_corner 18 level place 1 ∷ (0, 0) ∷ (0, 0) ∷ [] }
+/// The corners of a line's cell, both with y 0, or none where there is no such cell.
+fn ends(level: u8, place: u64) -> Option<[(u32, u32); 4]>
+    ensures { unwrap_or result (replicate 4 (0, 0)) ≡ outline_of (line_plan 18) level place }
 {
-    if level > DEPTH || place >= 1u64 << level {
-        return [(0, 0); 4];
-    }
-    [
-        (ticks(place, level), 0),
-        (ticks(place + 1, level), 0),
+    let Stretch { level, place } = Stretch::new(level, place)?;
+    Some([
+        (level.ticks(place)?, 0),
+        (level.ticks(place + 1)?, 0),
         (0, 0),
         (0, 0),
-    ]
+    ])
 }
 
 impl Flat for Line {
@@ -144,6 +130,6 @@ impl Flat for Line {
     }
 
     fn outline(&self, level: u8, place: u64) -> [(u32, u32); 4] {
-        ends(level, place)
+        ends(level, place).unwrap_or([(0, 0); 4])
     }
 }
