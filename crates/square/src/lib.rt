@@ -3,6 +3,7 @@
 #![tactic(auto)]
 
 mod morton;
+mod side;
 mod square;
 
 pub use square::Square;

@@ -1,40 +1,42 @@
 //! Places of squares in Morton order: bit 2i of the place is bit i of x, bit 2i + 1 is bit i of y.
-ghost use Rattle.std.specs.Prelude.{◌≡◌, ◌^◌, ◌<◌, ◌≤◌};
+ghost use Rattle.std.specs.Prelude.{◌≡◌, ◌^◌, ◌<◌};
 ghost use Rattle.models.specs.Square.{square_x, square_y, square_at};
 ghost use Rattle.models.specs.Moving.{lowered as lowered_place, raised as raised_place, square_beyond};
+ghost use Rattle.square.specs.Side.{face_of};
 
-use grid::places;
+use crate::side::Side;
+use grid::{Level, Place};
 
 /// The coordinate x of a place.
-pub(crate) fn x_of(level: u8, place: u64) -> u32
-    requires { level ≤ 18 }
-    ensures value { result ≡ square_x level place }
-    ensures within { result < 2 ^ level }
+pub(crate) fn x_of(place: Place) -> u32
+    ensures value { result ≡ square_x place.level.number place.number }
+    ensures within { result < 2 ^ place.level.number }
 {
     let mut x = 0;
-    for i in (0..level).rev() {
-        x = x * 2 + ((place >> (2 * i)) % 2) as u32;
+    for i in (0..place.level.number).rev() {
+        x = x * 2 + ((place.number >> (2 * i)) % 2) as u32;
     }
     x
 }
 
 /// The coordinate y of a place: the bits of x in the place with its last bit dropped.
-pub(crate) fn y_of(level: u8, place: u64) -> u32
-    requires { level ≤ 18 }
-    ensures value { result ≡ square_y level place }
-    ensures within { result < 2 ^ level }
+pub(crate) fn y_of(place: Place) -> u32
+    ensures value { result ≡ square_y place.level.number place.number }
+    ensures within { result < 2 ^ place.level.number }
 {
-    x_of(level, place >> 1)
+    x_of(Place {
+        level: place.level,
+        number: place.number >> 1,
+    })
 }
 
 /// The place of the square at (x, y).
-pub(crate) fn place_of(level: u8, x: u32, y: u32) -> u64
-    requires { level ≤ 18 }
-    ensures { result ≡ square_at level x y }
+pub(crate) fn place_of(level: Level, x: u32, y: u32) -> u64
+    ensures { result ≡ square_at level.number x y }
 {
     let mut place = 0;
-    for i in (0..level).rev() {
-        place = place * 4 + ((y >> i) % 2 * 2 + (x >> i) % 2) as u64;
+    for i in (0..level.number).rev() {
+        place = place * 4 + u64::from((y >> i) % 2 * 2 + (x >> i) % 2);
     }
     place
 }
@@ -63,18 +65,15 @@ fn raised(place: u64, along: u64, beside: u64) -> Option<u64>
 }
 
 /// The place across a face, or none at the root's edge.
-pub(crate) fn beyond(level: u8, place: u64, face: u8) -> Option<u64>
-    requires level { level ≤ 18 }
-    requires place { place < 4 ^ level }
-    requires face { face < 4 }
-    ensures { result ≡ square_beyond level (square_x level place) (square_y level place) face }
+pub(crate) fn beyond(place: Place, side: Side) -> Option<u64>
+    ensures { result ≡ square_beyond place.level.number (square_x place.level.number place.number) (square_y place.level.number place.number) (face_of side) }
 {
-    let x_bits = places(level) / 3;
+    let x_bits = place.level.places() / 3;
     let y_bits = 2 * x_bits;
-    match face {
-        0 => lowered(place, x_bits, y_bits),
-        1 => raised(place, x_bits, y_bits),
-        2 => lowered(place, y_bits, x_bits),
-        _ => raised(place, y_bits, x_bits),
+    match side {
+        Side::Left => lowered(place.number, x_bits, y_bits),
+        Side::Right => raised(place.number, x_bits, y_bits),
+        Side::Bottom => lowered(place.number, y_bits, x_bits),
+        Side::Top => raised(place.number, y_bits, x_bits),
     }
 }

@@ -1,13 +1,15 @@
-ghost use Rattle.std.specs.Prelude.{◌≡◌, ◌<◌, ◌≤◌, refl};
+ghost use Rattle.std.specs.Prelude.{◌≡◌, ◌<◌, replicate, unwrap_or, refl};
 ghost use Rattle.scheme.specs.Plan.{outline_of};
-ghost use Rattle.models.specs.Moving.{square_opposite, square_number};
+ghost use Rattle.models.specs.Moving.{square_number};
 ghost use Rattle.models.specs.Square.{square as square_meaning, square_plan, square_cell, square_place, square_x, square_y, square_rim, square_on_face, SquareBits, SquareUndoes, SquareThere, SquareShares, SquareFaceChildren};
+ghost use Rattle.square.specs.Side.{face_of};
 ghost use Rattle.std.proofs.Common.{lit≤};
 ghost use Rattle.models.proofs.SquareLaws.{square_lawful};
 ghost use Rattle.models.proofs.SquareOnPlan.{square_nested, square_flat, square_agrees};
 
 use crate::morton::{beyond, place_of, x_of, y_of};
-use grid::{DEPTH, places, row_length, ticks, turned_over};
+use crate::side::Side;
+use grid::{DEPTH, Level, Place};
 use models::Anchor;
 use scheme::{Crossing, Flat, Scheme};
 
@@ -21,57 +23,39 @@ const FACES: u8 = 4;
 #[derive(Clone, Copy, PartialEq, Eq, Debug)]
 pub struct Square;
 
-/// The face that lies against a face from the other side.
-fn opposite(face: u8) -> u8
-    requires { face < 4 }
-    ensures { result ≡ square_opposite face }
-{
-    match face {
-        0 => 1,
-        1 => 0,
-        2 => 3,
-        _ => 2,
-    }
-}
-
 /// Where a cell lies along the root's face.
-fn number_along(level: u8, place: u64, face: u8) -> u64
-    requires { level ≤ 18 }
-    ensures { result ≡ square_number (square_x level place) (square_y level place) face }
+fn number_along(place: Place, side: Side) -> u64
+    ensures { result ≡ square_number (square_x place.level.number place.number) (square_y place.level.number place.number) (face_of side) }
 {
-    if face < 2 {
-        y_of(level, place) as u64
-    } else {
-        x_of(level, place) as u64
+    match side {
+        Side::Left | Side::Right => u64::from(y_of(place)),
+        Side::Bottom | Side::Top => u64::from(x_of(place)),
     }
 }
 
 /// The place of the cell at an edge number of a root face.
-fn rim(level: u8, face: u8, number: u32) -> u64
-    requires level { level ≤ 18 }
-    requires face { face < 4 }
-    ensures { result ≡ square_rim level face number }
+fn rim(level: Level, side: Side, number: u32) -> u64
+    ensures { result ≡ square_rim level.number (face_of side) number }
 {
-    let last = row_length(level) - 1;
-    match face {
-        0 => place_of(level, 0, number),
-        1 => place_of(level, last, number),
-        2 => place_of(level, number, 0),
-        _ => place_of(level, number, last),
+    let last = level.row_length() - 1;
+    match side {
+        Side::Left => place_of(level, 0, number),
+        Side::Right => place_of(level, last, number),
+        Side::Bottom => place_of(level, number, 0),
+        Side::Top => place_of(level, number, last),
     }
 }
 
 /// The children with two corners on a face, rising.
-fn child_on(face: u8, number: u8) -> u8
-    requires face { face < 4 }
-    requires number { number < 2 }
-    ensures { result ≡ square_on_face face number }
+fn child_on(side: Side, number: u8) -> u8
+    requires { number < 2 }
+    ensures { result ≡ square_on_face (face_of side) number }
 {
-    match face {
-        0 => number * 2,
-        1 => number * 2 + 1,
-        2 => number,
-        _ => number + 2,
+    match side {
+        Side::Left => number * 2,
+        Side::Right => number * 2 + 1,
+        Side::Bottom => number,
+        Side::Top => number + 2,
     }
 }
 
@@ -79,11 +63,9 @@ fn child_on(face: u8, number: u8) -> u8
 fn cell_at(level: u8, place: u64) -> Option<Anchor>
     ensures { result ≡ square_cell 18 level place }
 {
-    if level > DEPTH || place >= places(level) {
-        return None;
-    }
-    let x = x_of(level, place);
-    let y = y_of(level, place);
+    let place = Place::new(level, place)?;
+    let x = x_of(place);
+    let y = y_of(place);
     Some(Anchor { x, y, ty: 0 })
 }
 
@@ -91,11 +73,9 @@ fn cell_at(level: u8, place: u64) -> Option<Anchor>
 fn place_there(level: u8, x: u32, y: u32, ty: u8) -> Option<u64>
     ensures { result ≡ square_place 18 level x y ty }
 {
-    if level > DEPTH || ty > 0 {
-        return None;
-    }
-    let length = row_length(level);
-    if x >= length || y >= length {
+    let level = Level::new(level)?;
+    let length = level.row_length();
+    if x >= length || y >= length || ty > 0 {
         return None;
     }
     Some(place_of(level, x, y))
@@ -147,27 +127,30 @@ impl Scheme for Square {
     }
 
     fn across(&self, level: u8, place: u64, face: u8) -> Option<Crossing> {
-        if level > DEPTH || face >= FACES || place >= places(level) {
-            return None;
-        }
-        match beyond(level, place, face) {
-            Some(next) => Some(Crossing::Inside((next, opposite(face)))),
-            None => Some(Crossing::Edge(face, number_along(level, place, face))),
-        }
+        let place = Place::new(level, place)?;
+        let side = Side::try_from(face).ok()?;
+        Some(match beyond(place, side) {
+            Some(next) => Crossing::Inside((next, side.opposite().into())),
+            None => Crossing::Edge(face, number_along(place, side)),
+        })
     }
 
     fn at_edge(&self, level: u8, face: u8, number: u64) -> Option<(u64, u8)> {
-        if level > DEPTH || face >= FACES || number >= row_length(level) as u64 {
+        let level = Level::new(level)?;
+        let side = Side::try_from(face).ok()?;
+        if number >= u64::from(level.row_length()) {
             return None;
         }
-        Some((rim(level, face, number as u32), face))
+        Some((rim(level, side, number as u32), face))
     }
 
     fn face_child(&self, level: u8, place: u64, face: u8, number: u8) -> Option<(u8, u8)> {
-        if level >= DEPTH || face >= FACES || number >= 2 || place >= places(level) {
+        let place = Place::new(level, place)?;
+        let side = Side::try_from(face).ok()?;
+        if place.level.number >= DEPTH || number >= 2 {
             return None;
         }
-        Some((child_on(face, number), face))
+        Some((child_on(side, number), face))
     }
 
     fn sort(&self, face: u8) -> Option<u8> {
@@ -178,22 +161,21 @@ impl Scheme for Square {
         if sort != 0 {
             return None;
         }
-        turned_over(level, number)
+        Level::new(level)?.turned_over(number)
     }
 }
 
-/// The corners of a square: (x, y), (x + 1, y), (x, y + 1), (x + 1, y + 1).
-fn corners(level: u8, place: u64) -> [(u32, u32); 4]
-    ensures { result ≡ outline_of (square_plan 18) level place }
+/// The corners of a square: (x, y), (x + 1, y), (x, y + 1), (x + 1, y + 1); or none where there is no such place.
+fn corners(level: u8, place: u64) -> Option<[(u32, u32); 4]>
+    ensures { unwrap_or result (replicate 4 (0, 0)) ≡ outline_of (square_plan 18) level place }
 {
-    if level > DEPTH || place >= places(level) {
-        return [(0, 0); 4];
-    }
-    let x = x_of(level, place) as u64;
-    let y = y_of(level, place) as u64;
-    let (left, right) = (ticks(x, level), ticks(x + 1, level));
-    let (bottom, top) = (ticks(y, level), ticks(y + 1, level));
-    [(left, bottom), (right, bottom), (left, top), (right, top)]
+    let place = Place::new(level, place)?;
+    let level = place.level;
+    let x = u64::from(x_of(place));
+    let y = u64::from(y_of(place));
+    let (left, right) = (level.ticks(x)?, level.ticks(x + 1)?);
+    let (bottom, top) = (level.ticks(y)?, level.ticks(y + 1)?);
+    Some([(left, bottom), (right, bottom), (left, top), (right, top)])
 }
 
 impl Flat for Square {
@@ -224,6 +206,6 @@ impl Flat for Square {
     }
 
     fn outline(&self, level: u8, place: u64) -> [(u32, u32); 4] {
-        corners(level, place)
+        corners(level, place).unwrap_or([(0, 0); 4])
     }
 }

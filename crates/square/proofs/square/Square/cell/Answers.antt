@@ -1,5 +1,5 @@
 use Rattle.models.proofs.SquareCells.{square_bits}
 use Rattle.square.proofs.square.Square.cell.Goals as goal
 
-pub returns : goal.returns
-returns c = record { value = c.cell_at.ensures; bits = square_bits }
+pub returns-clause-bits : goal.returns-clause-bits
+returns-clause-bits c = square_bits

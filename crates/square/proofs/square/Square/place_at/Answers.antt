@@ -1,5 +1,5 @@
-use Rattle.models.proofs.SquareCells.{square_undoes, square_there}
+use Rattle.models.proofs.SquareCells.{square_undoes}
 use Rattle.square.proofs.square.Square.place_at.Goals as goal
 
-pub returns : goal.returns
-returns c = record { value = c.place_there.ensures; undoes = square_undoes; there = square_there }
+pub returns-clause-undoes : goal.returns-clause-undoes
+returns-clause-undoes c = square_undoes
