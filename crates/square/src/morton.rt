@@ -1,7 +1,8 @@
 //! Places of squares in Morton order: bit 2i of the place is bit i of x, bit 2i + 1 is bit i of y.
 ghost use Rattle.std.specs.Prelude.{◌≡◌, ◌^◌, ◌<◌};
-ghost use Rattle.models.specs.Square.{square_x, square_y, square_at};
+ghost use Rattle.models.specs.Square.{square_at};
 ghost use Rattle.models.specs.Moving.{lowered as lowered_place, raised as raised_place, square_beyond};
+ghost use Rattle.square.specs.Place.{x_at, y_at};
 ghost use Rattle.square.specs.Side.{face_of};
 
 use crate::side::Side;
@@ -9,7 +10,7 @@ use grid::{Level, Place};
 
 /// The coordinate x of a place.
 pub(crate) fn x_of(place: Place) -> u32
-    ensures value { result ≡ square_x place.level.number place.number }
+    ensures value { result ≡ x_at place }
     ensures within { result < 2 ^ place.level.number }
 {
     let mut x = 0;
@@ -21,7 +22,7 @@ pub(crate) fn x_of(place: Place) -> u32
 
 /// The coordinate y of a place: the bits of x in the place with its last bit dropped.
 pub(crate) fn y_of(place: Place) -> u32
-    ensures value { result ≡ square_y place.level.number place.number }
+    ensures value { result ≡ y_at place }
     ensures within { result < 2 ^ place.level.number }
 {
     x_of(Place {
@@ -66,7 +67,7 @@ fn raised(place: u64, along: u64, beside: u64) -> Option<u64>
 
 /// The place across a face, or none at the root's edge.
 pub(crate) fn beyond(place: Place, side: Side) -> Option<u64>
-    ensures { result ≡ square_beyond place.level.number (square_x place.level.number place.number) (square_y place.level.number place.number) (face_of side) }
+    ensures { result ≡ square_beyond place.level.number (x_at place) (y_at place) (face_of side) }
 {
     let x_bits = place.level.places() / 3;
     let y_bits = 2 * x_bits;

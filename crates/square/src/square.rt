@@ -1,7 +1,8 @@
 ghost use Rattle.std.specs.Prelude.{◌≡◌, ◌<◌, replicate, unwrap_or, refl};
 ghost use Rattle.scheme.specs.Plan.{outline_of};
 ghost use Rattle.models.specs.Moving.{square_number};
-ghost use Rattle.models.specs.Square.{square as square_meaning, square_plan, square_cell, square_place, square_x, square_y, square_rim, square_on_face, SquareBits, SquareUndoes, SquareThere, SquareShares, SquareFaceChildren};
+ghost use Rattle.models.specs.Square.{square as square_meaning, square_plan, square_cell, square_place, square_rim, square_on_face, SquareBits, SquareUndoes, SquareThere, SquareShares, SquareFaceChildren};
+ghost use Rattle.square.specs.Place.{x_at, y_at};
 ghost use Rattle.square.specs.Side.{face_of};
 ghost use Rattle.std.proofs.Common.{lit≤};
 ghost use Rattle.models.proofs.SquareLaws.{square_lawful};
@@ -25,7 +26,7 @@ pub struct Square;
 
 /// Where a cell lies along the root's face.
 fn number_along(place: Place, side: Side) -> u64
-    ensures { result ≡ square_number (square_x place.level.number place.number) (square_y place.level.number place.number) (face_of side) }
+    ensures { result ≡ square_number (x_at place) (y_at place) (face_of side) }
 {
     match side {
         Side::Left | Side::Right => u64::from(y_of(place)),
