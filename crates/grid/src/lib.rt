@@ -3,11 +3,13 @@
 #![tactic(auto)]
 
 mod counts;
+mod face;
 mod lengths;
 mod level;
 mod place;
 
 pub use counts::{places, row_length, turned_over};
+pub use face::NoSuchFace;
 pub use lengths::ticks;
 pub use level::{DEPTH, Level};
 pub use place::Place;

@@ -2,7 +2,7 @@
 use Rattle.std.specs.Prelude.{◌≡◌, ℕ, ◌<◌, Result, MatchResult}
 use Rattle.square.specs.declared.side.Side.{Side}
 use Rattle.square.specs.declared.side.Side.TheVariants.{Left, Right, Bottom, Top}
-use Rattle.square.specs.declared.side.NoSuchFace.{NoSuchFace}
+use Rattle.grid.specs.declared.face.NoSuchFace.{NoSuchFace}
 
 -- the number of a face
 abbrev pub face_of : Side → ℕ

@@ -2,6 +2,8 @@ ghost use Rattle.std.specs.Prelude.{◌≡◌};
 ghost use Rattle.models.specs.Moving.{square_opposite};
 ghost use Rattle.square.specs.Side.{face_of, HasFace};
 
+use grid::NoSuchFace;
+
 /// A face of a square, named for the side at which it lies: faces 0 to 3.
 #[derive(Clone, Copy, PartialEq, Eq, Debug)]
 pub(crate) enum Side {
@@ -10,10 +12,6 @@ pub(crate) enum Side {
     Bottom,
     Top,
 }
-
-/// A number that no face of a square has.
-#[derive(Clone, Copy, PartialEq, Eq, Debug)]
-pub(crate) struct NoSuchFace(pub(crate) u8);
 
 impl TryFrom<u8> for Side {
     type Error = NoSuchFace;

@@ -2,7 +2,9 @@
 
 #![tactic(auto)]
 
-mod tetrahedral;
+mod cell;
+mod face;
+mod half;
 mod triangle;
 
 pub use triangle::Triangle;

@@ -1,5 +1,5 @@
 use Rattle.models.proofs.TriangleCells.{triangle_order}
 use Rattle.triangle.proofs.triangle.Triangle.cell.Goals as goal
 
-pub returns : goal.returns
-returns c = record { value = c.cell_at.ensures; order = triangle_order }
+pub returns-clause-order : goal.returns-clause-order
+returns-clause-order c = triangle_order

@@ -1,5 +1,5 @@
-use Rattle.models.proofs.TriangleCells.{triangle_undoes, triangle_there}
+use Rattle.models.proofs.TriangleCells.{triangle_undoes}
 use Rattle.triangle.proofs.triangle.Triangle.place_at.Goals as goal
 
-pub returns : goal.returns
-returns c = record { value = c.place_there.ensures; undoes = triangle_undoes; there = triangle_there }
+pub returns-clause-undoes : goal.returns-clause-undoes
+returns-clause-undoes c = triangle_undoes
