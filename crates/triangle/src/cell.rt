@@ -36,9 +36,9 @@ impl From<Cell> for Anchor {
 }
 
 impl Cell {
-    ghost use Rattle.models.specs.Triangle.{triangle_at, triangle_parent, triangle_number, triangle_step, TriangleCell};
+    ghost use Rattle.models.specs.Triangle.{triangle_parent, triangle_number, triangle_step, TriangleCell};
     ghost use Rattle.models.specs.Moving.{anchor, triangle_anchor, triangle_beyond, triangle_edge_number, child_of};
-    ghost use Rattle.triangle.specs.Cell.{anchored};
+    ghost use Rattle.triangle.specs.Cell.{anchored, place_of};
     ghost use Rattle.triangle.specs.Face.{face_of};
 
     /// The cell with this anchor and type, or none where there is no such cell.
@@ -102,7 +102,7 @@ impl Cell {
 
     /// The place of the cell, from its last digit back.
     pub(crate) fn place(self) -> u64
-        ensures { result ≡ triangle_at self.level.number self.x self.y (type_of self.half) }
+        ensures { result ≡ place_of self }
     {
         let mut cell = self;
         let mut place = 0;
@@ -151,7 +151,8 @@ impl Cell {
     /// The cell across a face, of the other type, or none at the root's edge, which only type 0 meets.
     fn beyond(self, face: Face) -> Option<Cell>
         ensures level { IfSome result (λ cell. cell.level.number ≡ self.level.number) }
-        ensures value { option_map anchored result ≡ triangle_beyond self.level.number self.x self.y (type_of self.half) (face_of face) }
+        ensures value { option_map anchored result ≡
+            triangle_beyond self.level.number self.x self.y (type_of self.half) (face_of face) }
     {
         let Cell { level, x, y, half } = self;
         let (x, y, half) = match (half, face) {

@@ -1,6 +1,6 @@
-use Rattle.std.proofs.Common.{ℕ, ◌<◌, add-one, arith}
-use Rattle.models.specs.Triangle.{triangle_at}
+use Rattle.std.proofs.Common.{◌<◌, add-one, arith}
 use Rattle.models.proofs.TriangleDigits.{woven_more, woven_fits, woven_done, at_small}
+use Rattle.triangle.specs.Cell.{place_of}
 use Rattle.triangle.specs.Half.{type_of}
 use Rattle.triangle.specs.declared.half.Half.{Half}
 use Rattle.triangle.specs.declared.half.Half.TheVariants.{Lower, Upper}
@@ -11,15 +11,10 @@ type_small : (half : Half) → type_of half < 2
 type_small Lower = omega arith
 type_small Upper = omega arith
 
-place_of : Cell → ℕ
-place_of s = triangle_at s.level.number s.x s.y (type_of s.half)
-
 small : (s : Cell) → place_of s < 68719476736
-unfolding place_of
 small s = at_small s.level.number s.x s.y (type_of s.half) s.level.within (type_small s.half)
 
 pub overflow_add-place : goal.overflow_add-place
-unfolding place_of
 overflow_add-place c = omega (
   arith,
   woven_fits c.args.self.level.number c.loop-i.i c.loop-i.cell.x c.loop-i.cell.y (type_of c.loop-i.cell.half) c.loop-i.place (place_of c.args.self)
@@ -27,7 +22,6 @@ overflow_add-place c = omega (
 )
 
 pub loop-i-preserved : goal.loop-i-preserved
-unfolding place_of
 loop-i-preserved c = record {
   level = omega arith;
   digits = rw (add-one c.loop-i.i, c.parent-cell.ensures.x, c.parent-cell.ensures.y) (

@@ -1,6 +1,6 @@
 use Rattle.std.proofs.Common.{◌≡◌, ◌-◌}
-use Rattle.models.specs.Triangle.{triangle_at}
 use Rattle.models.proofs.TriangleDigits.{Woven}
+use Rattle.triangle.specs.Cell.{place_of}
 use Rattle.triangle.specs.Half.{type_of}
 use Rattle.triangle.proofs.cell.Cell.place.Given as goal
 
@@ -8,6 +8,5 @@ use Rattle.triangle.proofs.cell.Cell.place.Given as goal
 abbrev pub invariant-loop-i : goal.invariant-loop-i
 invariant-loop-i l = record {
   level : l.cell.level.number ≡ l.fn.self.level.number - l.i;
-  digits : Woven l.fn.self.level.number l.i l.cell.x l.cell.y (type_of l.cell.half) l.place
-      (triangle_at l.fn.self.level.number l.fn.self.x l.fn.self.y (type_of l.fn.self.half));
+  digits : Woven l.fn.self.level.number l.i l.cell.x l.cell.y (type_of l.cell.half) l.place (place_of l.fn.self);
 }
