@@ -1,14 +1,9 @@
 -- Weaving and splitting from the highest digit down: what one more digit does, and that 54 bits hold all.
-use Rattle.std.proofs.Common.{◌≡◌, ℕ, zero, suc, ◌+◌, ◌-◌, ◌*◌, ◌/◌, ◌%◌, ◌^◌, ◌<◌, ◌≤◌, sym, ap, ◌∙◌, mul_comm, mul-le-mul, pow-suc, mul-zero, mul-suc, div-one, arith, pow_pos, pow_mono, pow-add}
-use native.Mathlib.Nat.{pow-zero}
+use Rattle.std.proofs.Common.{◌≡◌, ℕ, suc, ◌+◌, ◌-◌, ◌*◌, ◌/◌, ◌%◌, ◌^◌, ◌<◌, ◌≤◌, sym, ap, ◌∙◌, mul_comm, mul-le-mul, mul-zero, mul-suc, div-one, arith, pow_pos, pow_mono, pow-add}
+use Rattle.scheme.proofs.Powers.{pow_mul}
 use Rattle.std.proofs.lemmas.Nat.{shr-shr}
 use Rattle.models.specs.Weaving.{weave, left, right}
 use Rattle.models.proofs.Weaving.{weave_lt, left_lt, right_lt}
-
-pub pow_of_pow : (e l : ℕ) → (2 ^ e) ^ l ≡ 2 ^ (e * l)
-pow_of_pow e zero = pow-zero (2 ^ e) ∙ sym (ap (λ n. 2 ^ n) (mul-zero e))
-pow_of_pow e (suc l) =
-    pow-suc (2 ^ e) l ∙ ap (λ n. n * 2 ^ e) (pow_of_pow e l) ∙ sym (pow-add 2 (e * l) e) ∙ sym (ap (λ n. 2 ^ n) (mul-suc e l))
 
 -- the bits below a digit
 pub below : (w v top i : ℕ) → w ≤ v → i ≤ top → v * top ≤ 54 → w * (i - 1) ≤ 54
@@ -18,7 +13,7 @@ below w v top i le hi fits = let less : i - 1 ≤ top = omega arith in omega (ar
 within : (w v top l n : ℕ) → w ≤ v → l ≤ top → v * top ≤ 54 → n < (2 ^ w) ^ l → n < 2 ^ 54
 within w v top l n le hl fits hn =
     let m : w * l ≤ 54 = omega (arith, mul-le-mul le hl) in
-    omega (arith, hn, pow_of_pow w l, pow_mono m)
+    omega (arith, hn, pow_mul 2 w l, pow_mono m)
 
 drop_digit : (n w i j : ℕ) → i ≡ suc j → n / 2 ^ (w * j) / 2 ^ w ≡ n / 2 ^ (w * i)
 drop_digit n w i j e = rw e (shr-shr n (w * j) w ∙ ap (λ z. n / 2 ^ z) (sym (mul-suc w j)))

@@ -20,12 +20,6 @@ test_of w D s [] e h = eq-eqb s e h
 test_of w D s (c ∷ cs) e h =
     and_from _ _ (eq-eqb _ _ h.0) (and_from _ _ (le-leb _ _ h.1.0) (and_from _ _ (lt-ltb _ _ h.1.1) (test_of w D (s + size w D c.level) cs e h.2)))
 
--- a level more has 2^w times the cells
-pub cells_split : (w l : ℕ) → 2 ^ (w * suc l) ≡ 2 ^ (w * l) * 2 ^ w
-cells_split w l =
-    let e : suc l ≡ l + 1 = omega arith in
-    ap (λ x. 2 ^ x) (ap (λ x. w * x) e ∙ (mul-add w l 1 ∙ omega arith)) ∙ pow-add 2 (w * l) w
-
 -- a root's finest places are those of its cells of one level
 pub root_size : (w D l : ℕ) → l ≤ D → 2 ^ (w * D) ≡ 2 ^ (w * l) * size w D l
 root_size w D l le =

@@ -1,19 +1,14 @@
 -- A list tiles exactly when it is a chain through all roots; and the evenly planted list tiles.
-use Rattle.std.proofs.Common.{◌≡◌, ℕ, zero, suc, ◌+◌, ◌-◌, ◌*◌, ◌/◌, ◌%◌, ◌^◌, ◌<◌, ◌≤◌, true, ◌⊎◌, ◌↔◌, List, [], ◌∷◌, length, drop, sym, refl, ap, ◌∙◌, subst, inl, inr, mul-le-mul_right, mod-lt, suc-mul, div-lt_iff_lt-mul, pow-suc, div-add-mod', arith, drop_of_length-le, drop-cons, pow_pos}
-use native.Mathlib.Nat.{pow-zero}
+use Rattle.std.proofs.Common.{◌≡◌, ℕ, zero, suc, ◌+◌, ◌-◌, ◌*◌, ◌/◌, ◌%◌, ◌^◌, ◌<◌, ◌≤◌, true, ◌⊎◌, ◌↔◌, List, [], ◌∷◌, length, drop, sym, refl, ap, ◌∙◌, subst, inl, inr, mul-le-mul_right, mod-lt, suc-mul, div-lt_iff_lt-mul, div-add-mod', arith, drop_of_length-le, drop-cons, pow_pos}
 use Rattle.std.proofs.lemmas.Bool.{cases_lt, cases_order}
 use Rattle.std.proofs.lemmas.List.FromFn.{length-map-range_with_len, get_or-map-range_with_len}
 use Rattle.tiling.specs.declared.leaf.Leaf.{Leaf}
 use Rattle.scheme.specs.Scheme.{Model, k, Bounded}
+use Rattle.scheme.proofs.Powers.{pow_mul}
 use Rattle.tiling.specs.Cells.{blank, at, span, first, Holds, CellOf, Before, Tiles, Among}
 use Rattle.tiling.specs.Positions.{size, start, Cell, Chain, Fills, fills, even, evenly, Spans, Bounds}
-use Rattle.tiling.proofs.Chains.{chain_of, test_of, chain_start, chain_cell, pos_suc, pos_mono, fills_root, spans_once, place_within, start_within, even_fills, cells_split}
+use Rattle.tiling.proofs.Chains.{chain_of, test_of, chain_start, chain_cell, pos_suc, pos_mono, fills_root, spans_once, place_within, start_within, even_fills}
 use Rattle.tiling.proofs.Holding.{leaf_same, holds_up, holds_first}
-
--- the code's powers are the theory's
-pub power : (w n : ℕ) → 2 ^ (w * n) ≡ (2 ^ w) ^ n
-power w zero = ap (λ x. 2 ^ x) (let e : w * 0 ≡ 0 = omega arith in e) ∙ sym (pow-zero (2 ^ w))
-power w (suc n) = cells_split w n ∙ ap (λ x. x * 2 ^ w) (power w n) ∙ sym (pow-suc (2 ^ w) n)
 
 -- a greater root comes later, by a whole root at least
 root_after : (N r r' : ℕ) → r < r' → r * N + N ≤ r' * N
@@ -42,16 +37,16 @@ chain_rises w D ls e i j h lt hj =
 
 module _ (m : Model) where
   pub size_span : (l : ℕ) → size m.w m.D l ≡ span m l
-  size_span l = power m.w (m.D - l)
+  size_span l = pow_mul 2 m.w (m.D - l)
 
   pub size_first : (c : Leaf) → c.place * size m.w m.D c.level ≡ first m c
   size_first c = ap (λ x. c.place * x) (size_span c.level)
 
   pub cell_of : (roots : ℕ) (c : Leaf) → c.root < roots → Cell m.w m.D c → CellOf m roots c
-  cell_of roots c hr (deep, hp) = (hr, deep, subst (λ x. c.place < x) (power m.w c.level) hp)
+  cell_of roots c hr (deep, hp) = (hr, deep, subst (λ x. c.place < x) (pow_mul 2 m.w c.level) hp)
 
   pub of_cell : (roots : ℕ) (c : Leaf) → CellOf m roots c → Cell m.w m.D c
-  of_cell roots c (hr, deep, hp) = (deep, subst (λ x. c.place < x) (sym (power m.w c.level)) hp)
+  of_cell roots c (hr, deep, hp) = (deep, subst (λ x. c.place < x) (sym (pow_mul 2 m.w c.level)) hp)
 
   -- a place of a root, and its number over all roots
   pub holds_spans : (c : Leaf) (r q : ℕ) → Holds m c r q → Spans m.w m.D c (r * 2 ^ (m.w * m.D) + q)
@@ -107,7 +102,7 @@ module _ (m : Model) where
 
         covered : (r q : ℕ) → r < roots → q < k m ^ m.D → (i : ℕ) × (i < length ls) × Holds m (at ls i) r q
         covered r q hr hq =
-            let hq' : q < 2 ^ (m.w * m.D) = omega (arith, power m.w m.D) in
+            let hq' : q < 2 ^ (m.w * m.D) = omega (arith, pow_mul 2 m.w m.D) in
             let g : ℕ = r * 2 ^ (m.w * m.D) + q in
             let low : g < roots * 2 ^ (m.w * m.D) = omega (arith, root_after (2 ^ (m.w * m.D)) r roots hr) in
             let z = chain_covers m.w m.D 0 ls _ g h (omega arith) low in
@@ -146,7 +141,7 @@ module _ (m : Model) where
             let hq : q < N = mod-lt g pos in
             let hr : r < roots = (div-lt_iff_lt-mul pos).1 lt in
             let whole : r * N + q ≡ g = div-add-mod' g N in
-            let hq' : q < k m ^ m.D = subst (λ x. q < x) (power m.w m.D) hq in
+            let hq' : q < k m ^ m.D = subst (λ x. q < x) (pow_mul 2 m.w m.D) hq in
             let z = t.covered r q hr hq' in
             (z.0, z.1, subst (λ x. Spans m.w m.D (at ls z.0) x) whole (holds_spans (at ls z.0) r q z.2))
 
@@ -209,8 +204,8 @@ module _ (m : Model) where
     -- a list tiles exactly when each leaf starts where the one before it ends, from 0 to the end of the last root
     pub tiles_iff_chain : Tiles m roots ls ↔ Chain m.w m.D 0 ls (roots * k m ^ m.D)
     tiles_iff_chain = (
-      λ t. subst (λ n. Chain m.w m.D 0 ls (roots * n)) (power m.w m.D) (tiles_chain t),
-      λ h. chain_tiles (subst (λ n. Chain m.w m.D 0 ls (roots * n)) (sym (power m.w m.D)) h),
+      λ t. subst (λ n. Chain m.w m.D 0 ls (roots * n)) (pow_mul 2 m.w m.D) (tiles_chain t),
+      λ h. chain_tiles (subst (λ n. Chain m.w m.D 0 ls (roots * n)) (sym (pow_mul 2 m.w m.D)) h),
     )
 
     pub tiles_iff_test : Tiles m roots ls ↔ (fills m.w m.D roots ls ≡ true)
@@ -231,7 +226,7 @@ module _ (m : Model) where
   pub even_tiles : (roots l : ℕ) → l ≤ m.D → Tiles m roots (evenly roots m.w l) × (length (evenly roots m.w l) ≡ roots * k m ^ l)
   even_tiles roots l le = (
     chain_tiles roots (evenly roots m.w l) (even_fills m.w m.D l roots le),
-    length-map-range_with_len (even m.w l) 0 (roots * 2 ^ (m.w * l)) ∙ ap (λ x. roots * x) (power m.w l),
+    length-map-range_with_len (even m.w l) 0 (roots * 2 ^ (m.w * l)) ∙ ap (λ x. roots * x) (pow_mul 2 m.w l),
   )
 
   -- what is planted is the cells of level l
@@ -257,7 +252,7 @@ module _ (m : Model) where
       there cell el =
           let q : ℕ = c.place * k m ^ (m.D - c.level) in
           let low : q < k m ^ m.D =
-          omega (arith, size_first c, power m.w m.D, place_within m.w m.D c (of_cell roots c cell), pow_pos (m.w * (m.D - c.level))) in
+          omega (arith, size_first c, pow_mul 2 m.w m.D, place_within m.w m.D c (of_cell roots c cell), pow_pos (m.w * (m.D - c.level))) in
           let z = t.covered c.root q cell.0 low in
           let d : Leaf = at ls z.0 in
           let ed : d.level ≡ c.level = even_level roots l d le (z.0, z.1, refl) ∙ sym el in

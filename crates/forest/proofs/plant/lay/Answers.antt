@@ -1,6 +1,6 @@
 use Rattle.std.proofs.Common.{◌≡◌, ◌*◌, ◌^◌, ◌≤◌, length, take, length-take, ap, ◌∙◌, arith}
 use Rattle.std.proofs.lemmas.List.{take-append-le}
-use Rattle.tiling.proofs.Filling.{power}
+use Rattle.scheme.proofs.Powers.{pow_mul}
 use Rattle.forest.specs.Planting.{counted}
 use Rattle.forest.proofs.Overlaid.{blank_before}
 use Rattle.forest.proofs.plant.lay.Goals as goal
@@ -21,7 +21,7 @@ returns-in-Ok-clause-laid g c =
     record {
       sound = ok.sound;
       shallow = ok.shallow;
-      count = count ∙ ap (λ x. roots * x) (power m.w l);
+      count = count ∙ ap (λ x. roots * x) (pow_mul 2 m.w l);
       room = omega arith;
       even = take-append-le n front _ room ∙ (rw (ok.all_roots, ok.by_width, ok.to_level) at c.fill.ensures.front);
       rest = blank_before front _ n cap (omega arith) (omega arith) (rw lent at c.fill.ensures.rest);
