@@ -117,11 +117,12 @@ impl Cell {
     fn child_number(self) -> u64
         ensures { result ≡ triangle_number (self.x % 2) (self.y % 2) (type_of self.half) }
     {
-        match (self.x % 2, self.y % 2, self.half) {
-            (0, 0, _) => 0,
-            (1, 1, _) => 3,
-            (_, _, Half::Lower) => 1,
-            (_, _, Half::Upper) => 2,
+        // no match of the four cases: at edge takes twice as long by it
+        let (dx, dy) = (self.x % 2, self.y % 2);
+        if dx == dy {
+            u64::from(3 * dx)
+        } else {
+            1 + u64::from(u8::from(self.half))
         }
     }
 
@@ -133,10 +134,13 @@ impl Cell {
         ensures y { result.y ≡ self.y / 2 }
         ensures half { type_of result.half ≡ triangle_parent (self.x % 2) (self.y % 2) (type_of self.half) }
     {
-        let half = match (self.x % 2, self.y % 2) {
-            (0, 1) => Half::Upper,
-            (1, 0) => Half::Lower,
-            _ => self.half,
+        let (dx, dy) = (self.x % 2, self.y % 2);
+        let half = if dx == dy {
+            self.half
+        } else if dx < dy {
+            Half::Upper
+        } else {
+            Half::Lower
         };
         Cell {
             level: Level {
