@@ -12,7 +12,8 @@ use scheme::{Crossing, Flat, Scheme};
 /// The digit width of the line: a cell has two children.
 const WIDTH: u8 = 1;
 
-/// The faces of a line's cell: its ends.
+/// The faces of a line's cell: its ends. They stay numbers in the code, since each question tells them apart in one match, and
+/// an enum with its conversions would be longer.
 const FACES: u8 = 2;
 
 /// The line: a cell is a stretch, its two faces are its ends.
