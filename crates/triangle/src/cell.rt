@@ -21,7 +21,6 @@ pub(crate) struct Cell {
 }
 
 impl From<Cell> for Anchor {
-    ghost use Rattle.std.specs.Prelude.{◌≡◌};
     ghost use Rattle.triangle.specs.Cell.{anchored};
 
     ghost from_gives = { λ cell anchor. anchor ≡ anchored cell };
