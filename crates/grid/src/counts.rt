@@ -1,7 +1,9 @@
-ghost use Rattle.std.specs.Prelude.{◌≡◌, ◌^◌, ◌≤◌, ◌&&◌, if◌then◌else◌, Some, None, nat_le, nat_lt};
+ghost use Rattle.std.specs.Prelude.{◌≡◌, ◌==◌, ◌^◌, ◌≤◌, ◌&&◌, if◌then◌else◌, Some, None, nat_le, nat_lt};
 ghost use Rattle.grid.specs.Turning.{turn_over};
 
 use crate::level::Level;
+
+// `row_length` and `places` answer 0 and no option, since they could never fail; a `Level` is made where there is one.
 
 /// How many cells lie along a root's side, or 0 where there is no such level.
 pub fn row_length(level: u8) -> u32
@@ -24,4 +26,15 @@ pub fn turned_over(level: u8, number: u64) -> Option<u64>
     ensures { result ≡ (if nat_le level 18 && nat_lt number (2 ^ level) then Some (turn_over level number) else None) }
 {
     Level::new(level)?.turned_over(number)
+}
+
+/// An edge number of a face of this sort turned over, in a shape whose faces all have sort 0, or none where there is no
+/// such sort or number.
+pub fn turned(sort: u8, level: u8, number: u64) -> Option<u64>
+    ensures { result ≡ (if sort == 0 && (nat_le level 18 && nat_lt number (2 ^ level)) then Some (turn_over level number) else None) }
+{
+    if sort != 0 {
+        return None;
+    }
+    turned_over(level, number)
 }

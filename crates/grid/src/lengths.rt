@@ -3,6 +3,8 @@ ghost use Rattle.scheme.specs.Plan.{side as side_of};
 
 use crate::level::Level;
 
+// `ticks` answers 0 and no option, since it could never fail; `Level::ticks` tells that there is none.
+
 /// A length in cell sides of a level, in ticks, or 0 where a root is not so long or there is no such level.
 pub fn ticks(sides: u64, level: u8) -> u32
     ensures { result ≡ (if nat_le level 18 && nat_le sides (2 ^ level) then sides * side_of level else 0) }

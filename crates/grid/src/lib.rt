@@ -8,7 +8,7 @@ mod lengths;
 mod level;
 mod place;
 
-pub use counts::{places, row_length, turned_over};
+pub use counts::{places, row_length, turned, turned_over};
 pub use face::NoSuchFace;
 pub use lengths::ticks;
 pub use level::{DEPTH, Level};

@@ -38,6 +38,8 @@ impl Mesh {
             || joint.turn > 1
     }
 
+    // That row `i` is there stands in three contracts: a type for it would be made once, by `check_rows`, and hold the rows again.
+
     /// Does a row before row `i` have this root face at an end?
     fn is_joined_before(&self, i: usize, end: RootFace) -> bool
         requires { i < length self.now.joints.items }

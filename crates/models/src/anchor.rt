@@ -4,5 +4,6 @@
 pub struct Anchor {
     pub x: u32,
     pub y: u32,
+    // A number, and no enum: a place is asked for with any number as the type, and there is none for one that is no type.
     pub ty: u8,
 }

@@ -113,6 +113,7 @@ impl<A: Flat, B: Flat> Scheme for Product<A, B> {
         }
     }
 
+    // The two sorts stay numbers, as the trait asks and answers them: an enum would be made and matched in one place.
     fn sort(&self, face: u8) -> Option<u8> {
         let faces = self.first.sides();
         if face < faces {

@@ -95,6 +95,9 @@ impl Weaving {
         }
     }
 
+    // The two differ in the field that is less, and a value with a ghost field takes no `..`: one function for both would be
+    // told the field by numbers.
+
     /// How the edge numbers of the first are woven with the places of the second: an edge's digit has one bit less.
     pub(crate) fn first_edges(self) -> Weaving
         requires { 1 ≤ self.low }

@@ -10,7 +10,7 @@ ghost use Rattle.models.proofs.SquareOnPlan.{square_nested, square_flat, square_
 
 use crate::morton::{beyond, place_of, x_of, y_of};
 use crate::side::Side;
-use grid::{DEPTH, Level, Place};
+use grid::{DEPTH, Level, Place, turned};
 use models::Anchor;
 use scheme::{Crossing, Flat, Scheme};
 
@@ -154,15 +154,13 @@ impl Scheme for Square {
         Some((child_on(side, number), face))
     }
 
+    // One comparison with the number of faces of the shape: a function that all shapes share would be no shorter.
     fn sort(&self, face: u8) -> Option<u8> {
-        if face < FACES { Some(0) } else { None }
+        (face < FACES).then_some(0)
     }
 
     fn turned(&self, sort: u8, level: u8, number: u64) -> Option<u64> {
-        if sort != 0 {
-            return None;
-        }
-        Level::new(level)?.turned_over(number)
+        turned(sort, level, number)
     }
 }
 

@@ -3,9 +3,7 @@ use crate::asked::{Asked, all, some};
 use crate::row::{Row, print_row};
 use models::Anchor;
 use scheme::Scheme;
-use square::Square;
 use std::alloc::{AllocError, Global};
-use triangle::Triangle;
 
 /// Coordinates at the ends and in the middle of a root of level 18, and past it.
 const FAR: [u32; 8] = [
@@ -19,37 +17,14 @@ const FAR: [u32; 8] = [
     u32::MAX,
 ];
 
-/// A scheme whose cells have coordinates and a type.
-pub(crate) trait Anchored: Scheme {
-    /// The coordinates of a cell.
-    fn anchor_of(&self, level: u8, place: u64) -> Option<Anchor>;
-
-    /// The place of the cell with these coordinates.
-    fn place_of(&self, level: u8, anchor: Anchor) -> Option<u64>;
-}
-
-impl Anchored for Square {
-    fn anchor_of(&self, level: u8, place: u64) -> Option<Anchor> {
-        self.cell(level, place)
-    }
-
-    fn place_of(&self, level: u8, anchor: Anchor) -> Option<u64> {
-        self.place_at(level, anchor.x, anchor.y, anchor.ty)
-    }
-}
-
-impl Anchored for Triangle {
-    fn anchor_of(&self, level: u8, place: u64) -> Option<Anchor> {
-        self.cell(level, place)
-    }
-
-    fn place_of(&self, level: u8, anchor: Anchor) -> Option<u64> {
-        self.place_at(level, anchor.x, anchor.y, anchor.ty)
-    }
-}
-
 /// The coordinates of the cells.
-fn print_anchors<S: Anchored>(rt: &HostRuntime, shape: &S, asked: &Asked) -> anyhow::Result<()> {
+fn print_anchors<C: Fn(u8, u64) -> Option<Anchor>>(
+    rt: &HostRuntime,
+    asked: &Asked,
+    cell: &C,
+) -> anyhow::Result<()>
+    requires { C.IsAlwaysCallable cell.now }
+{
     let level = asked.level;
     let places = asked.places.as_slice();
     print_row(
@@ -57,12 +32,20 @@ fn print_anchors<S: Anchored>(rt: &HostRuntime, shape: &S, asked: &Asked) -> any
         format_args!("cells {level}"),
         level,
         places,
-        |row, place| { row.add(shape.anchor_of(level, place)) },
+        |row, place| row.add(cell(level, place)),
     )
 }
 
 /// The places that the coordinates of the cells lead back to.
-fn print_back<S: Anchored>(rt: &HostRuntime, shape: &S, asked: &Asked) -> anyhow::Result<()> {
+fn print_back<C: Fn(u8, u64) -> Option<Anchor>, P: Fn(u8, Anchor) -> Option<u64>>(
+    rt: &HostRuntime,
+    asked: &Asked,
+    cell: &C,
+    place_of: &P,
+) -> anyhow::Result<()>
+    requires cells { C.IsAlwaysCallable cell.now }
+    requires places { P.IsAlwaysCallable place_of.now }
+{
     let level = asked.level;
     let places = asked.places.as_slice();
     print_row(
@@ -70,26 +53,24 @@ fn print_back<S: Anchored>(rt: &HostRuntime, shape: &S, asked: &Asked) -> anyhow
         format_args!("back {level}"),
         level,
         places,
-        |row, place| {
-            let anchor = shape.anchor_of(level, place);
-            row.add(anchor.and_then(|anchor| shape.place_of(level, anchor)))
-        },
+        |row, place| { row.add(cell(level, place).and_then(|anchor| place_of(level, anchor))) },
     )
 }
 
 /// The places of the cells of each type on a grid of coordinates, and of one type more than there are.
-fn print_places<S: Anchored>(
+fn print_places<P: Fn(u8, Anchor) -> Option<u64>>(
     rt: &HostRuntime,
-    shape: &S,
     level: u8,
     reach: &[u32],
-) -> anyhow::Result<()> {
+    place_of: &P,
+) -> anyhow::Result<()>
+    requires { P.IsAlwaysCallable place_of.now }
+{
     for ty in 0..3u8 {
         let mut row = Row::new(rt.alloc(), level);
         for y in reach {
             for x in reach {
-                let anchor = Anchor { x: *x, y: *y, ty };
-                row.add(shape.place_of(level, anchor))?;
+                row.add(place_of(level, Anchor { x: *x, y: *y, ty }))?;
             }
         }
         println!(rt; "places {level} {ty}:{row}")?;
@@ -102,29 +83,33 @@ fn reach_of(heap: Global, level: u8) -> Result<Vec<u32>, AllocError> {
     (0..=1u32.wrapping_shl(u32::from(level))).collect(heap)
 }
 
-/// The cells and places of small levels, of the deepest, and one past it.
-pub(crate) fn print_cells<S: Anchored>(
-    rt: &HostRuntime,
-    name: &str,
-    shape: &S,
-) -> anyhow::Result<()> {
+/// The cells and places of small levels, of the deepest, and one past it: `cell` tells a cell's coordinates, and `place_of`
+/// leads back.
+pub(crate) fn print_cells<
+    S: Scheme,
+    C: Fn(u8, u64) -> Option<Anchor> + Drop,
+    P: Fn(u8, Anchor) -> Option<u64> + Drop,
+>(rt: &HostRuntime, name: &str, shape: &S, cell: C, place_of: P) -> anyhow::Result<()>
+    requires cells { C.IsAlwaysCallable cell }
+    requires places { P.IsAlwaysCallable place_of }
+{
     println!(rt; "== cells of {name}")?;
     for level in 0..4u8 {
         let asked = Asked::by(rt.alloc(), shape, level, all)?;
-        print_anchors(rt, shape, &asked)?;
-        print_back(rt, shape, &asked)?;
+        print_anchors(rt, &asked, &cell)?;
+        print_back(rt, &asked, &cell, &place_of)?;
     }
     for level in [18u8, 19] {
         let asked = Asked::by(rt.alloc(), shape, level, some)?;
-        print_anchors(rt, shape, &asked)?;
-        print_back(rt, shape, &asked)?;
+        print_anchors(rt, &asked, &cell)?;
+        print_back(rt, &asked, &cell, &place_of)?;
     }
     for level in 0..4u8 {
         let reach = reach_of(rt.alloc(), level)?;
-        print_places(rt, shape, level, reach.as_slice())?;
+        print_places(rt, level, reach.as_slice(), &place_of)?;
     }
     for level in [18u8, 19] {
-        print_places(rt, shape, level, &FAR)?;
+        print_places(rt, level, &FAR, &place_of)?;
     }
     Ok(())
 }

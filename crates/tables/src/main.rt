@@ -11,6 +11,7 @@ mod questions;
 mod row;
 
 use anchors::print_cells;
+use models::Anchor;
 use plans::print_plan;
 use product::{Hexahedron, Prism, Product};
 use questions::{print_deep, print_whole};
@@ -41,9 +42,21 @@ fn print_flats(rt: &HostRuntime) -> anyhow::Result<()> {
     let (square, triangle) = (Square::new(), Triangle::new());
     print_flat(rt, "line", &Line::new(), 3)?;
     print_flat(rt, "square", &square, 3)?;
-    print_cells(rt, "square", &square)?;
+    print_cells(
+        rt,
+        "square",
+        &square,
+        |level, place| square.cell(level, place),
+        |level, Anchor { x, y, ty }| square.place_at(level, x, y, ty),
+    )?;
     print_flat(rt, "triangle", &triangle, 3)?;
-    print_cells(rt, "triangle", &triangle)
+    print_cells(
+        rt,
+        "triangle",
+        &triangle,
+        |level, place| triangle.cell(level, place),
+        |level, Anchor { x, y, ty }| triangle.place_at(level, x, y, ty),
+    )
 }
 
 /// Products of two flat shapes.

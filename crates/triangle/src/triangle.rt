@@ -10,7 +10,7 @@ ghost use Rattle.models.proofs.TriangleOnPlan.{triangle_nested, triangle_flat, t
 use crate::cell::Cell;
 use crate::face::Face;
 use crate::half::Half;
-use grid::{DEPTH, Level, Place};
+use grid::{DEPTH, Level, Place, turned};
 use models::Anchor;
 use scheme::{Crossing, Flat, Scheme};
 
@@ -139,15 +139,13 @@ impl Scheme for Triangle {
         Some((child_on(Half::at(place), side, number), face))
     }
 
+    // One comparison with the number of faces of the shape: a function that all shapes share would be no shorter.
     fn sort(&self, face: u8) -> Option<u8> {
-        if face < FACES { Some(0) } else { None }
+        (face < FACES).then_some(0)
     }
 
     fn turned(&self, sort: u8, level: u8, number: u64) -> Option<u64> {
-        if sort != 0 {
-            return None;
-        }
-        Level::new(level)?.turned_over(number)
+        turned(sort, level, number)
     }
 }
 
