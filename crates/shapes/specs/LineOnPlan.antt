@@ -1,16 +1,26 @@
--- The line on the plan: the corner that a face child keeps, and a child inside its parent's rectangle.
+-- The line on the plan: corners shared across a face, and a child inside its parent's rectangle.
 use Rattle.std.specs.Prelude.{◌≡◌, ℕ, suc, ◌+◌, ◌*◌, ◌^◌, ◌<◌, ◌≤◌, Some, refl}
 use Rattle.std.proofs.Common.{sym, ◌∙◌, arith, pow-suc, mul-le-mul_right}
 use Rattle.std.proofs.lemmas.Bool.Decides.{nat_tests}
+use Rattle.scheme.specs.declared.crossing.Crossing.TheVariants.{Inside}
 use Rattle.scheme.specs.Plan.{side, InBox, Nested, Agrees, Flat, OnPlan}
-use Rattle.shapes.specs.Segment.{line, line_face_child, line_corner, line_plan}
+use Rattle.shapes.specs.Segment.{line, line_across, line_face_child, line_corner, line_plan}
 use Rattle.shapes.specs.OnPlan.{between_corners, side_half, two_sides}
+use Rattle.shapes.specs.LineLaws.{line_inside}
 
 corner_in : (D l p i : ℕ) → l ≤ D → p < 2 ^ l → i < 2 → line_corner D l p i ≡ ((p + i) * side l, 0)
 corner_in D l p i hl hp hi = grind (arith, nat_tests)
 
 child_lt : (l p i : ℕ) → p < 2 ^ l → i < 2 → p * 2 + i < 2 ^ suc l
 child_lt l p i hp hi = omega (arith, pow-suc 2 l)
+
+pub line_shares : (D : ℕ) → D ≤ 18 → (l p f q g : ℕ) → line_across D l p f ≡ Some (Inside (q, g)) → line_corner D l p f ≡ line_corner D l q g
+line_shares D deep l p f q g e =
+    let (hl, hp, hq, ways) = line_inside D deep l p f q g e in
+    let hf : f < 2 = omega arith in
+    let hg : g < 2 = omega arith in
+    let same : p + f ≡ q + g = omega arith in
+    corner_in D l p f hl hp hf ∙ rw same (sym (corner_in D l q g hl hq hg))
 
 face_child_is : (D l p f i a : ℕ) → line_face_child D l p f 0 ≡ Some (i, a) → (l < D) × (p < 2 ^ l) × (f < 2) × (i ≡ f) × (a ≡ f)
 face_child_is D l p f i a e = grind (arith, nat_tests)
