@@ -55,6 +55,7 @@ impl Level {
         if sides > u64::from(self.row_length()) {
             return None;
         }
+        // At most 2^18 ticks: `try_from` would have an error that cannot occur.
         Some((sides * self.side()) as u32)
     }
 

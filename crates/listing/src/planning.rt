@@ -50,6 +50,7 @@ fn read_and_plant(heap: Global, bytes: &[u8]) -> Result<Listing, Unlisted>
 {
     let description = read(heap, bytes)?;
     let limit = description.limit;
+    // Each shape is a scheme of a type of its own, so that the match chooses which `plant_and_list` runs.
     match description.shape {
         Shape::Line => plant_and_list(
             heap,

@@ -32,6 +32,7 @@ pub trait Flat: Scheme {
         ensures sorts { FlatModel (Self.Scheme.meaning self.now) };
 
     /// All corners of a cell, in ticks, those past its count as (0, 0); outside the bounds all are.
+    // Four pairs beside a count, and no list: the rules have all corners of a cell answered together, by value.
     fn outline(&self, level: u8, place: u64) -> [(u32, u32); 4]
         ensures { result ≡ outline_of (plan self.now) level place };
 

@@ -1,3 +1,4 @@
+ghost use Rattle.std.specs.Prelude.{◌≡◌, ◌<◌, ◌≤◌, MatchOption};
 ghost use Rattle.scheme.specs.Limiting.{limited, limited_plan};
 ghost use Rattle.scheme.specs.Limited.{limited_lawful};
 ghost use Rattle.scheme.specs.LimitedPlan.{limited_nested, limited_flat, limited_agrees};
@@ -11,6 +12,15 @@ use crate::scheme::Scheme;
 pub struct Limit<S> {
     pub below: S,
     pub limit: u8,
+}
+
+impl<S> Limit<S> {
+    /// The scheme below, at a level that the limit leaves.
+    fn at(&self, level: u8) -> Option<&S>
+        ensures { MatchOption result (self.now.limit < level) (λ below. (level ≤ self.now.limit) × (below.now ≡ self.now.below)) }
+    {
+        (level <= self.limit).then_some(&self.below)
+    }
 }
 
 impl<S: Scheme> Scheme for Limit<S> {
@@ -31,19 +41,11 @@ impl<S: Scheme> Scheme for Limit<S> {
     }
 
     fn across(&self, level: u8, place: u64, face: u8) -> Option<Crossing> {
-        if level <= self.limit {
-            self.below.across(level, place, face)
-        } else {
-            None
-        }
+        self.at(level)?.across(level, place, face)
     }
 
     fn at_edge(&self, level: u8, face: u8, number: u64) -> Option<(u64, u8)> {
-        if level <= self.limit {
-            self.below.at_edge(level, face, number)
-        } else {
-            None
-        }
+        self.at(level)?.at_edge(level, face, number)
     }
 
     fn face_child(&self, level: u8, place: u64, face: u8, number: u8) -> Option<(u8, u8)> {
@@ -59,11 +61,7 @@ impl<S: Scheme> Scheme for Limit<S> {
     }
 
     fn turned(&self, sort: u8, level: u8, number: u64) -> Option<u64> {
-        if level <= self.limit {
-            self.below.turned(sort, level, number)
-        } else {
-            None
-        }
+        self.at(level)?.turned(sort, level, number)
     }
 }
 
@@ -95,10 +93,9 @@ impl<S: Flat> Flat for Limit<S> {
     }
 
     fn outline(&self, level: u8, place: u64) -> [(u32, u32); 4] {
-        if level <= self.limit {
-            self.below.outline(level, place)
-        } else {
-            [(0, 0); 4]
+        match self.at(level) {
+            Some(below) => below.outline(level, place),
+            None => [(0, 0); 4],
         }
     }
 }

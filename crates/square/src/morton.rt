@@ -15,6 +15,7 @@ pub(crate) fn x_of(place: Place) -> u32
 {
     let mut x = 0;
     for i in (0..place.level.number).rev() {
+        // One bit: `try_from` would have an error that cannot occur.
         x = x * 2 + ((place.number >> (2 * i)) % 2) as u32;
     }
     x

@@ -139,10 +139,11 @@ impl Scheme for Square {
     fn at_edge(&self, level: u8, face: u8, number: u64) -> Option<(u64, u8)> {
         let level = Level::new(level)?;
         let side = Side::try_from(face).ok()?;
-        if number >= u64::from(level.row_length()) {
+        let number = u32::try_from(number).ok()?;
+        if number >= level.row_length() {
             return None;
         }
-        Some((rim(level, side, number as u32), face))
+        Some((rim(level, side, number), face))
     }
 
     fn face_child(&self, level: u8, place: u64, face: u8, number: u8) -> Option<(u8, u8)> {
