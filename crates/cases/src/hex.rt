@@ -5,7 +5,7 @@ use anyhow::Context;
 use std::alloc::Global;
 
 /// The value of a hex digit.
-// The library's `to_digit` and `hex` take upper case too, which these words never have.
+// Upper case is refused, which the library's `to_digit` and `hex` take.
 fn digit(character: u8) -> Option<u8>
     ensures { IfSome result (λ d. d < 16) }
 {

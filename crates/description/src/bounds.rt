@@ -1,8 +1,7 @@
+//! Whether the values of a part are within their bounds.
 ghost use Rattle.std.specs.Prelude.{◌↔◌, IsTrue};
 ghost use Rattle.description.specs.Bounds.{HeadWithin, RowFits, RowWithin, WindowFits, RangeFits, RangeWithin};
 ghost use Rattle.description.specs.Parts.{held, FlatWithin};
-
-// A row, a window or a range within its bounds also fits its bytes, which its reader knows of the values that it hands on.
 
 use crate::head::Head;
 use crate::step::{RangeStep, WindowStep};
@@ -21,6 +20,7 @@ const DEEPEST: u8 = 18;
 const FARTHEST: u32 = 262_144;
 
 impl Head {
+    /// Are the counts and levels within their bounds? Any shape is.
     pub(crate) fn is_within(&self) -> bool
         ensures { IsTrue result ↔ HeadWithin (held self.now) }
     {
@@ -32,6 +32,7 @@ impl Head {
     }
 }
 
+/// A row within its bounds fits its bytes as well; that it does is a premise, since a borrowed value tells no range.
 pub(crate) fn is_row_within(row: &Joint) -> bool
     ensures { RowFits row.now → (IsTrue result ↔ RowWithin row.now) }
 {
@@ -52,6 +53,7 @@ impl WindowStep {
 }
 
 impl RangeStep {
+    /// Is the target no deeper than the deepest level, and the range not falling?
     pub(crate) fn is_within(&self) -> bool
         ensures { RangeFits self.now → (IsTrue result ↔ RangeWithin self.now) }
     {

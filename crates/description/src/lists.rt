@@ -1,3 +1,4 @@
+//! The rows and the steps, part after part.
 ghost use Rattle.std.specs.Prelude.{◌≡◌, ◌⊎◌, MatchResult};
 ghost use Rattle.description.specs.Told.{told};
 ghost use Rattle.description.specs.Format.{scheme_of};

@@ -1,3 +1,4 @@
+//! One part of a description, and one step.
 ghost use Rattle.std.specs.Prelude.{◌^◌, ◌<◌, ◌⊎◌};
 ghost use Rattle.description.specs.Format.{scheme_of};
 ghost use Rattle.description.specs.Faults.{Cut};

@@ -1,3 +1,4 @@
+//! The whole input.
 ghost use Rattle.std.specs.Prelude.{◌<◌, ◌↔◌, length, IfOk, IsTrue};
 ghost use Rattle.description.specs.Outcome.{Answered, Bounded};
 ghost use Rattle.description.specs.Theorems.{OneReading, SomeReading, TwoLinesEncoded};
@@ -8,6 +9,7 @@ use crate::reader::Reader;
 use crate::refusal::Refusal;
 use std::alloc::Global;
 
+/// The most bytes that a description has.
 const LONGEST: usize = 8192;
 
 /// Is the input longer than a description may be?
@@ -17,7 +19,7 @@ fn is_too_long(bytes: &[u8]) -> bool
     bytes.len() > LONGEST
 }
 
-/// Reads part by part.
+/// The description that the input encodes, or the first fault in it: the head, then the rows that it counts, then the steps.
 fn read_parts(heap: Global, bytes: &[u8]) -> Result<Description, Refusal>
     ensures { Answered bytes.now result }
 {

@@ -21,6 +21,7 @@ pub enum Refusal {
 
 impl Refusal {
     /// The refusal's number.
+    // Listings print numbers for the number and for the place: docs/REFUSALS.md.
     pub fn number(&self) -> u8
         ensures { result ≡ (told self.now).0 }
     {

@@ -1,3 +1,4 @@
+//! What an even cut writes, and blanks.
 ghost use Rattle.std.specs.Prelude.{◌≡◌, ◌<◌, ◌≤◌, ◌↔◌, length, take, replicate, IsTrue};
 ghost use Rattle.tiling.specs.Cells.{blank};
 ghost use Rattle.tiling.specs.Positions.{even, Blank};

@@ -25,6 +25,7 @@ impl From<MeshFault> for PlantFault {
 
 impl PlantFault {
     /// The number of the fault.
+    // Listings print numbers for the number and for the place: docs/REFUSALS.md.
     pub fn number(&self) -> u8
         ensures { result ≡ (told self.now).0 }
     {

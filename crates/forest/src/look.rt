@@ -1,3 +1,4 @@
+//! What a forest tells.
 ghost use Rattle.std.specs.Prelude.{◌≡◌, true};
 ghost use Rattle.scheme.specs.Scheme.{Model};
 ghost use Rattle.tiling.specs.Cells.{Tiles};

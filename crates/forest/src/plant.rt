@@ -1,3 +1,4 @@
+//! Planting: what stops it, what it lays, and the forest.
 ghost use Rattle.std.specs.Prelude.{◌≡◌, drop, MatchResult};
 ghost use Rattle.tiling.specs.Positions.{Blank};
 ghost use Rattle.forest.specs.Planting.{counted, Planted, Admitted, Laid, Stopped, OnePlanting};
@@ -13,6 +14,8 @@ use tiling::Leaf;
 
 /// The most records that a forest counts.
 const CAP: usize = 65536;
+
+// Scheme, mesh and level are what `plant` is handed: a struct of them would be made there and read in two functions.
 
 /// The cut of all roots to the level, which fits in `cap` records, or why the planting stops.
 fn admit<S: Scheme>(scheme: &S, mesh: &Mesh, level: u8, cap: usize) -> Result<EvenCut, PlantFault>

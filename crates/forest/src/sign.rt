@@ -1,17 +1,16 @@
+//! The signature of a scheme.
 ghost use Rattle.std.specs.Prelude.{◌≡◌, ℕ, ◌<◌, slice_index};
 ghost use Rattle.std.specs.Option.{unwrap_or};
 ghost use Rattle.forest.specs.Signs.{Signs};
 
 use crate::signature::Signature;
 use scheme::Scheme;
-use std::array;
 
 /// The sorts of the faces, 0 where there is no face.
 fn sorts_of<S: Scheme>(scheme: &S) -> [u8; 8]
     ensures { (g : ℕ) → g < 8 → slice_index result g ≡ unwrap_or ((S.Scheme.meaning scheme.now).sort g) 0 }
 {
-    // No `From` leads from usize to u8, and a `TryFrom` has an error that cannot occur.
-    array::from_fn(|face| scheme.sort(face as u8).unwrap_or(0))
+    [0, 1, 2, 3, 4, 5, 6, 7].map(|face| scheme.sort(face).unwrap_or(0))
 }
 
 impl Signature {

@@ -1,9 +1,9 @@
+//! Numbers of cells and edge numbers at any level, whether there is such a level or not.
+// `row_length` and `places` answer 0 and no option: as public calls they could never fail. The shapes ask a `Level`.
 ghost use Rattle.std.specs.Prelude.{◌≡◌, ◌==◌, ◌^◌, ◌≤◌, ◌&&◌, if◌then◌else◌, Some, None, nat_le, nat_lt};
 ghost use Rattle.grid.specs.Turning.{turn_over};
 
 use crate::level::Level;
-
-// `row_length` and `places` answer 0 and no option, since they could never fail; a `Level` is made where there is one.
 
 /// How many cells lie along a root's side, or 0 where there is no such level.
 pub fn row_length(level: u8) -> u32

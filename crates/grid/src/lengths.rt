@@ -1,9 +1,9 @@
+//! Lengths in ticks at any level, whether there is such a level or not.
+// `ticks` answers 0 and no option: as a public call it could never fail. The shapes ask a `Level`.
 ghost use Rattle.std.specs.Prelude.{◌≡◌, ◌*◌, ◌^◌, ◌&&◌, if◌then◌else◌, nat_le};
 ghost use Rattle.scheme.specs.Plan.{side as side_of};
 
 use crate::level::Level;
-
-// `ticks` answers 0 and no option, since it could never fail; `Level::ticks` tells that there is none.
 
 /// A length in cell sides of a level, in ticks, or 0 where a root is not so long or there is no such level.
 pub fn ticks(sides: u64, level: u8) -> u32

@@ -41,32 +41,41 @@ impl Level {
     }
 
     /// A cell's side in ticks.
-    fn side(self) -> u64
+    fn side(self) -> u32
         ensures value { result ≡ side_of self.number }
         ensures row { 2 ^ self.number * result ≡ 262144 }
     {
-        1u64 << (DEPTH - self.number)
+        1u32 << (DEPTH - self.number)
     }
 
     /// A length in cell sides, in ticks, or none where a root's side is shorter.
     pub fn ticks(self, sides: u64) -> Option<u32>
         ensures { result ≡ (if nat_le sides (2 ^ self.number) then Some (sides * side_of self.number) else None) }
     {
-        if sides > u64::from(self.row_length()) {
+        let sides = u32::try_from(sides).ok()?;
+        if sides > self.row_length() {
             return None;
         }
-        // At most 2^18 ticks: `try_from` would have an error that cannot occur.
-        Some((sides * self.side()) as u32)
+        Some(sides * self.side())
+    }
+
+    /// The number of a cell along a root's side, or none past its end: a place of a line, or an edge number of a square or a
+    /// triangle.
+    pub fn along(self, number: u64) -> Option<u32>
+        ensures { result ≡ (if nat_lt number (2 ^ self.number) then Some number else None) }
+    {
+        let number = u32::try_from(number).ok()?;
+        if number >= self.row_length() {
+            return None;
+        }
+        Some(number)
     }
 
     /// An edge number of a square or a triangle turned over, or none where there is no such number.
     pub fn turned_over(self, number: u64) -> Option<u64>
         ensures { result ≡ (if nat_lt number (2 ^ self.number) then Some (turn_over self.number number) else None) }
     {
-        let length = u64::from(self.row_length());
-        if number >= length {
-            return None;
-        }
-        Some(length - 1 - number)
+        let number = self.along(number)?;
+        Some(u64::from(self.row_length() - 1 - number))
     }
 }

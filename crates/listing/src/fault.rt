@@ -4,6 +4,7 @@ ghost use Rattle.listing.specs.Text.{layer_word, fault_words};
 
 use description::Refusal;
 use forest::PlantFault;
+use std::error::Error;
 use std::fmt;
 
 /// Where a fault is found.
@@ -53,6 +54,7 @@ impl Fault {
     }
 
     /// Its number.
+    // Listings print numbers for the number and for the place: docs/REFUSALS.md.
     pub fn number(&self) -> u8
         ensures { result ≡ (told self.now).1 }
     {
@@ -86,3 +88,5 @@ impl fmt::Display for Fault {
         write!(f, "E {layer} {number} {at}")
     }
 }
+
+impl Error for Fault {}

@@ -1,3 +1,4 @@
+//! From the bytes of a description to the forest that it plants.
 ghost use Rattle.description.specs.Format.{contents};
 ghost use Rattle.listing.specs.Answering.{Planned, Answers, OneText};
 
@@ -50,7 +51,7 @@ fn read_and_plant(heap: Global, bytes: &[u8]) -> Result<Listing, Unlisted>
 {
     let description = read(heap, bytes)?;
     let limit = description.limit;
-    // Each shape is a scheme of a type of its own, so that the match chooses which `plant_and_list` runs.
+    // Each shape's scheme has a type of its own, which the generic function takes: the match is where that type is known.
     match description.shape {
         Shape::Line => plant_and_list(
             heap,

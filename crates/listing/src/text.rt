@@ -1,3 +1,4 @@
+//! The text of a listing, and the line of a fault.
 ghost use Rattle.std.specs.Prelude.{◌≡◌, ◌++◌, IfOk, string_bytes, OnOk};
 ghost use Rattle.listing.specs.Text.{leaf_lines, fault_line, listing_text};
 

@@ -1,5 +1,5 @@
 ghost use Rattle.std.specs.Prelude.{◌≡◌, Some};
-ghost use Rattle.listing.specs.Wanting.{wanting_text};
+ghost use Rattle.listing.specs.Wanting.{wanting_text, unlisted_text};
 ghost use Rattle.listing.specs.declared.fault.Fault.TheVariants.{Reader, Planting, NoMemory as Memory};
 ghost use Rattle.listing.specs.declared.unlisted.Unlisted.TheVariants.{Refused, Wanting};
 
@@ -7,6 +7,7 @@ use crate::fault::Fault;
 use description::{Refusal, Shape};
 use forest::PlantFault;
 use std::alloc::AllocError;
+use std::error::Error;
 use std::fmt;
 
 /// What a description may ask for, and the program does not do yet.
@@ -49,6 +50,22 @@ impl fmt::Display for NotYet {
     }
 }
 
+impl Error for NotYet {}
+
+/// The fault's words, or the sentence.
+impl fmt::Display for Unlisted {
+    ghost output = { λ unlisted. Some (unlisted_text unlisted) };
+
+    fn fmt<W: fmt::Write>(&self, f: &mut fmt::Formatter<W>) -> fmt::Result {
+        match self {
+            Unlisted::Refused(fault) => write!(f, "{fault}"),
+            Unlisted::Wanting(what) => write!(f, "{what}"),
+        }
+    }
+}
+
+impl Error for Unlisted {}
+
 impl From<Refusal> for Unlisted {
     ghost from_gives = { λ refusal u. u ≡ Refused (Reader refusal) };
 
@@ -74,9 +91,9 @@ impl From<AllocError> for Unlisted {
 }
 
 impl From<NotYet> for Unlisted {
-    ghost from_gives = { λ what u. u ≡ Wanting what };
+    ghost from_gives = { λ missing u. u ≡ Wanting missing };
 
-    fn from(what: NotYet) -> Unlisted {
-        Unlisted::Wanting(what)
+    fn from(missing: NotYet) -> Unlisted {
+        Unlisted::Wanting(missing)
     }
 }

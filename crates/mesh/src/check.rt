@@ -1,3 +1,4 @@
+//! The check of a mesh, row by row.
 ghost use Rattle.std.specs.Prelude.{◌≡◌, suc, ◌<◌, ◌↔◌, length, IsTrue, MatchResult};
 ghost use Rattle.mesh.specs.Faults.{told};
 ghost use Rattle.mesh.specs.Joints.{row, CountsIn, Absent, Differ, Before, Taken, Sound};

@@ -1,3 +1,4 @@
+//! Over a joint row.
 ghost use Rattle.std.specs.Prelude.{◌≡◌, ◌↔◌, ℕ, length, Some, None, IsTrue, MatchOption};
 ghost use Rattle.mesh.specs.Joints.{row};
 ghost use Rattle.mesh.specs.Crossing.{FirstRow, Crossed, TurnedOver};
@@ -7,6 +8,8 @@ use crate::ends::RootFace;
 use crate::joint::Joint;
 use crate::mesh::Mesh;
 use scheme::Scheme;
+
+// A face and an edge number travel as a pair, as the rules have it.
 
 /// Is there such an edge number of the face at the level? A face has 2^(w - 1) children.
 pub(crate) fn has_edge<S: Scheme>(scheme: &S, level: u8, edge: (u8, u64)) -> bool

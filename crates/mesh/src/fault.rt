@@ -16,6 +16,7 @@ pub enum MeshFault {
 
 impl MeshFault {
     /// The number of the fault.
+    // Listings print numbers for the number and for the place: docs/REFUSALS.md.
     pub fn number(&self) -> u8
         ensures { result ≡ (told self.now).0 }
     {

@@ -1,8 +1,8 @@
 -- Places of the square and their coordinates answer each other.
-use Rattle.std.proofs.Common.{◌≡◌, ℕ, zero, suc, ◌+◌, ◌*◌, ◌/◌, ◌%◌, ◌^◌, ◌<◌, ◌≤◌, true, ◌↔◌, is_some, Some, refl, pow-suc, arith}
+use Rattle.std.proofs.Common.{◌≡◌, ℕ, zero, suc, ◌+◌, ◌*◌, ◌/◌, ◌%◌, ◌^◌, ◌<◌, ◌≤◌, ◌↔◌, Some, refl, pow-suc, arith}
 use Rattle.std.proofs.lemmas.Bool.Decides.{nat_tests}
-use Rattle.models.specs.Square.{square_x, square_y, square_at, square_place, SquareCell, SquareBits, SquareUndoes, SquareThere}
-use Rattle.models.proofs.Anchored.{anchored_iff, anchored_some, both_ways}
+use Rattle.models.specs.Square.{square_x, square_y, square_at, square_place, SquareCell, SquareBits, SquareUndoes}
+use Rattle.models.proofs.Anchored.{anchored_iff, both_ways}
 use Rattle.models.proofs.Halves.{half_lt, quarter_lt, drop_bit, drop_two_bits}
 
 pub x_lt : (l p : ℕ) → square_x l p < 2 ^ l
@@ -85,10 +85,6 @@ y_bit (suc l) (suc i) p h =
 pub is_cell : (l p : ℕ) → SquareCell l (square_x l p) (square_y l p) 0
 is_cell l p = (x_lt l p, y_lt l p, refl)
 
--- exactly the cells there are have a place
-pub square_place_some : (D l x y t : ℕ) → (is_some (square_place D l x y t) ≡ true) ↔ ((l ≤ D) × SquareCell l x y t)
-square_place_some D l x y t = ((λ e. grind (arith, nat_tests)), (λ c. grind (arith, nat_tests)))
-
 -- the place of a cell has its coordinates, and each place is of the cell that has its own
 pub square_place_iff : (D l x y t p : ℕ) →
     (square_place D l x y t ≡ Some p) ↔ ((l ≤ D) × (p < 4 ^ l) × (x ≡ square_x l p) × (y ≡ square_y l p) × (t ≡ 0))
@@ -104,6 +100,3 @@ pub square_undoes : SquareUndoes
 square_undoes l p c = both_ways
     (anchored_iff 18 l p (record { x = square_x l p; y = square_y l p; ty = 0 }) c)
     (square_place_iff 18 l c.x c.y c.ty p)
-
-pub square_there : SquareThere
-square_there = (square_place_some 18, λ l p. anchored_some 18 l p (record { x = square_x l p; y = square_y l p; ty = 0 }))

@@ -40,14 +40,6 @@ x_done l zero p x h e =
     e ∙ rw (all, one)
 x_done l (suc n) p x h e = absurd (omega arith)
 
-pub at_done : (l n x y place : ℕ) → n ≤ 0 → place ≡ square_at (l - n) (x / 2 ^ n) (y / 2 ^ n) → place ≡ square_at l x y
-at_done l zero x y place h e =
-    let all : l - 0 ≡ l = omega arith in
-    let one : x / 2 ^ 0 ≡ x = omega arith in
-    let two : y / 2 ^ 0 ≡ y = omega arith in
-    e ∙ rw (all, one, two)
-at_done l (suc n) x y place h e = absurd (omega arith)
-
 -- they fit
 pub x_small : (l p x : ℕ) → l ≤ 18 → x ≡ square_x l p → x < 262144
 x_small l p x h e = omega (arith, e, x_lt l p, two_power_small l h)

@@ -1,10 +1,10 @@
 -- Places of the triangle and their anchors and types answer each other.
-use Rattle.std.proofs.Common.{◌≡◌, ℕ, zero, suc, ◌+◌, ◌*◌, ◌/◌, ◌%◌, ◌^◌, ◌<◌, ◌≤◌, true, ◌↔◌, is_some, Some, sym, refl, ap, ◌∙◌, inl, pow-suc, arith}
+use Rattle.std.proofs.Common.{◌≡◌, ℕ, zero, suc, ◌+◌, ◌*◌, ◌/◌, ◌%◌, ◌^◌, ◌<◌, ◌≤◌, ◌↔◌, Some, sym, refl, ap, ◌∙◌, inl, pow-suc, arith}
 use Rattle.std.proofs.lemmas.Bool.Decides.{nat_tests}
-use Rattle.models.specs.Triangle.{triangle_child, triangle_type, triangle_x, triangle_y, triangle_parent, triangle_number, triangle_at, triangle_cell, triangle_place, TriangleCell, TriangleOrder, TriangleUndoes, TriangleThere}
+use Rattle.models.specs.Triangle.{triangle_child, triangle_type, triangle_x, triangle_y, triangle_parent, triangle_number, triangle_at, triangle_cell, triangle_place, TriangleCell, TriangleOrder, TriangleUndoes}
 use Rattle.models.specs.declared.anchor.Anchor.{Anchor}
 use Rattle.models.proofs.Weaving.{last_lt}
-use Rattle.models.proofs.Anchored.{anchored_iff, anchored_some, both_ways}
+use Rattle.models.proofs.Anchored.{anchored_iff, both_ways}
 use Rattle.models.proofs.Halves.{quarter_lt}
 
 child_cell : (l x y t i : ℕ) → TriangleCell l x y t → i < 4 →
@@ -112,10 +112,6 @@ cell_back (suc l) x y t c =
     let i = triangle_number (x % 2) (y % 2) t in
     (x_child l q i small ∙ rw (bx, bt, ex) (omega arith), y_child l q i small ∙ rw (by, bt, ey) (omega arith), type_child l q i small ∙ rw (bt, et))
 
--- exactly the cells there are have a place
-pub triangle_place_some : (D l x y t : ℕ) → (is_some (triangle_place D l x y t) ≡ true) ↔ ((l ≤ D) × TriangleCell l x y t)
-triangle_place_some D l x y t = ((λ e. grind (arith, nat_tests)), (λ c. grind (arith, nat_tests)))
-
 -- the place of a cell has its anchor and type, and each place is of the cell that has its own
 pub triangle_place_iff : (D l x y t p : ℕ) →
     (triangle_place D l x y t ≡ Some p) ↔
@@ -129,9 +125,6 @@ pub triangle_undoes : TriangleUndoes
 triangle_undoes l p c = both_ways
     (anchored_iff 18 l p (record { x = triangle_x l p; y = triangle_y l p; ty = triangle_type l p }) c)
     (triangle_place_iff 18 l c.x c.y c.ty p)
-
-pub triangle_there : TriangleThere
-triangle_there = (triangle_place_some 18, λ l p. anchored_some 18 l p (record { x = triangle_x l p; y = triangle_y l p; ty = triangle_type l p }))
 
 pub triangle_order : TriangleOrder
 triangle_order = (root, child)

@@ -2,11 +2,11 @@
 use Rattle.std.proofs.Common.{◌≡◌, ℕ, zero, suc, ◌+◌, ◌-◌, ◌*◌, ◌/◌, ◌%◌, ◌^◌, ◌<◌, ◌≤◌, refl, ap, ◌∙◌, mul_comm, pow-suc, arith}
 use Rattle.std.proofs.lemmas.Bool.Decides.{nat_tests}
 use Rattle.models.specs.declared.anchor.Anchor.{Anchor}
-use Rattle.models.specs.Triangle.{triangle_child, triangle_x, triangle_y, triangle_type, triangle_at, triangle_parent, triangle_number, TriangleCell}
+use Rattle.models.specs.Triangle.{triangle_child, triangle_x, triangle_y, triangle_type, triangle_at, triangle_parent, triangle_number}
 use Rattle.models.specs.Moving.{anchor, triangle_anchor, child_of}
-use Rattle.models.proofs.Halves.{four_power, next_two_bits, two_power_small, four_power_small}
+use Rattle.models.proofs.Halves.{four_power, next_two_bits, four_power_small}
 use Rattle.models.proofs.Weaving.{step}
-use Rattle.models.proofs.TriangleCells.{is_cell, type_lt, at_lt}
+use Rattle.models.proofs.TriangleCells.{type_lt, at_lt}
 
 -- the cell, from the first digit on: n digits are left
 pub anchor_start : (l p : ℕ) → anchor 0 0 0 ≡ triangle_anchor (l - l) (p / 2 ^ (2 * l))
@@ -26,29 +26,6 @@ anchor_more l (suc n) p c pos h e =
     let q = p / 2 ^ (2 * n) in
     let parent : c ≡ triangle_anchor (l - suc n) (q / 4) = e ∙ rw (next_two_bits p n) in
     rw (one, more) (ap (λ (b : Anchor). child_of b (q % 4)) parent ∙ child_at (l - suc n) q)
-
-pub anchor_done : (l n p : ℕ) (c : Anchor) → n ≤ 0 → c ≡ triangle_anchor (l - n) (p / 2 ^ (2 * n)) → c ≡ triangle_anchor l p
-anchor_done l zero p c h e =
-    let all : l - 0 ≡ l = omega arith in
-    let one : p / 2 ^ (2 * 0) ≡ p = omega arith in
-    e ∙ rw (all, one)
-anchor_done l (suc n) p c h e = absurd (omega arith)
-
--- what there is of a cell
-pub anchor_cell : (l p : ℕ) (c : Anchor) → c ≡ triangle_anchor l p → TriangleCell l c.x c.y c.ty
-anchor_cell l p c e = rw e (is_cell l p)
-
-pub anchor_small : (l p : ℕ) (c : Anchor) → l ≤ 18 → c ≡ triangle_anchor l p → (c.x < 262144) × (c.y < 262144) × (c.ty < 2)
-anchor_small l p c h e =
-    let z = anchor_cell l p c e in
-    (omega (arith, z, two_power_small l h), omega (arith, z, two_power_small l h), omega (arith, z))
-
--- the type, from the last digit back: i digits are seen, none of which tells it
-pub type_start : (l p : ℕ) → triangle_type (l - 0) (p / 2 ^ (2 * 0)) ≡ triangle_type l p
-type_start l p =
-    let all : l - 0 ≡ l = omega arith in
-    let one : p / 2 ^ (2 * 0) ≡ p = omega arith in
-    rw (all, one)
 
 type_of_child : (t i : ℕ) → t < 2 → ((i ≡ 1) → (triangle_child t i).2 ≡ 0) × ((i ≡ 2) → (triangle_child t i).2 ≡ 1) × (i < 4 → (i ≡ 1 → ⊥) → (i ≡ 2 → ⊥) → (triangle_child t i).2 ≡ t)
 type_of_child t i h = ((λ e. grind (arith, nat_tests)), (λ e. grind (arith, nat_tests)), (λ small n1 n2. grind (arith, nat_tests, n1, n2)))
@@ -77,9 +54,6 @@ type_done l i p h = let none : l - i ≡ 0 = omega arith in rw none
 pub record Woven (l i x y t acc place : ℕ) : Type 0 where
   pub sum : triangle_at (l - i) x y t * 4 ^ i + acc ≡ place
   pub type : t < 2
-
-pub woven_start : (l x y t : ℕ) → t < 2 → Woven l 0 x y t 0 (triangle_at l x y t)
-woven_start l x y t h = record { sum = (let all : l - 0 ≡ l = omega arith in rw all (omega arith)); type = h }
 
 parent_lt : (dx dy t : ℕ) → dx < 2 → dy < 2 → t < 2 → triangle_parent dx dy t < 2
 parent_lt dx dy t hx hy ht = grind (arith, nat_tests)

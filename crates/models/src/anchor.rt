@@ -4,6 +4,6 @@
 pub struct Anchor {
     pub x: u32,
     pub y: u32,
-    // A number, and no enum: a place is asked for with any number as the type, and there is none for one that is no type.
+    // A number, as the rules and the public answers have it; the crate `triangle` works with an enum.
     pub ty: u8,
 }

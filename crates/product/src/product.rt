@@ -113,7 +113,8 @@ impl<A: Flat, B: Flat> Scheme for Product<A, B> {
         }
     }
 
-    // The two sorts stay numbers, as the trait asks and answers them: an enum would be made and matched in one place.
+    // The two sorts stay numbers: the trait answers and asks a sort as a number, so that an enum would be turned into one
+    // here, and back in `turned`.
     fn sort(&self, face: u8) -> Option<u8> {
         let faces = self.first.sides();
         if face < faces {

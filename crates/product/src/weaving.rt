@@ -16,6 +16,9 @@ pub(crate) struct Weaving {
     ghost fits: { (low ≤ 2) × (high ≤ 2) × (level ≤ 18) × ((low + high) * level ≤ 54) },
 }
 
+// That a digit has at most 4 bits stands in three contracts: a type for its bits would be made anew from `low`, `high` and
+// their sum at each call.
+
 /// The lowest bits of a number.
 fn lowest(number: u64, bits: u8) -> u64
     requires { bits ≤ 4 }

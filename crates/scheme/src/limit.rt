@@ -16,7 +16,7 @@ pub struct Limit<S> {
 
 impl<S> Limit<S> {
     /// The scheme below, at a level that the limit leaves.
-    fn at(&self, level: u8) -> Option<&S>
+    fn within(&self, level: u8) -> Option<&S>
         ensures { MatchOption result (self.now.limit < level) (λ below. (level ≤ self.now.limit) × (below.now ≡ self.now.below)) }
     {
         (level <= self.limit).then_some(&self.below)
@@ -41,11 +41,11 @@ impl<S: Scheme> Scheme for Limit<S> {
     }
 
     fn across(&self, level: u8, place: u64, face: u8) -> Option<Crossing> {
-        self.at(level)?.across(level, place, face)
+        self.within(level)?.across(level, place, face)
     }
 
     fn at_edge(&self, level: u8, face: u8, number: u64) -> Option<(u64, u8)> {
-        self.at(level)?.at_edge(level, face, number)
+        self.within(level)?.at_edge(level, face, number)
     }
 
     fn face_child(&self, level: u8, place: u64, face: u8, number: u8) -> Option<(u8, u8)> {
@@ -61,7 +61,7 @@ impl<S: Scheme> Scheme for Limit<S> {
     }
 
     fn turned(&self, sort: u8, level: u8, number: u64) -> Option<u64> {
-        self.at(level)?.turned(sort, level, number)
+        self.within(level)?.turned(sort, level, number)
     }
 }
 
@@ -93,7 +93,7 @@ impl<S: Flat> Flat for Limit<S> {
     }
 
     fn outline(&self, level: u8, place: u64) -> [(u32, u32); 4] {
-        match self.at(level) {
+        match self.within(level) {
             Some(below) => below.outline(level, place),
             None => [(0, 0); 4],
         }

@@ -3,6 +3,5 @@
 #![tactic(auto)]
 
 mod line;
-mod stretch;
 
 pub use line::Line;

@@ -5,7 +5,6 @@ ghost use Rattle.std.proofs.Common.{lit≤};
 ghost use Rattle.shapes.specs.LineLaws.{line_lawful};
 ghost use Rattle.shapes.specs.LineOnPlan.{line_nested, line_flat, line_agrees};
 
-use crate::stretch::Stretch;
 use grid::{DEPTH, Level};
 use scheme::{Crossing, Flat, Scheme};
 
@@ -50,11 +49,12 @@ impl Scheme for Line {
     }
 
     fn across(&self, level: u8, place: u64, face: u8) -> Option<Crossing> {
-        let stretch = Stretch::new(level, place)?;
+        let level = Level::new(level)?;
+        let x = level.along(place)?;
         match face {
-            0 if place == 0 => Some(Crossing::Edge(0, 0)),
+            0 if x == 0 => Some(Crossing::Edge(0, 0)),
             0 => Some(Crossing::Inside((place - 1, 1))),
-            1 if stretch.is_last() => Some(Crossing::Edge(1, 0)),
+            1 if x + 1 == level.row_length() => Some(Crossing::Edge(1, 0)),
             1 => Some(Crossing::Inside((place + 1, 0))),
             _ => None,
         }
@@ -70,32 +70,30 @@ impl Scheme for Line {
     }
 
     fn face_child(&self, level: u8, place: u64, face: u8, number: u8) -> Option<(u8, u8)> {
-        let stretch = Stretch::new(level, place)?;
-        if stretch.level.number >= DEPTH || face >= FACES || number >= 1 {
+        if level >= DEPTH || face >= FACES || number >= 1 {
             return None;
         }
+        Level::new(level)?.along(place)?;
         Some((face, face))
     }
 
-    // One comparison with the number of faces of the shape: a function that all shapes share would be no shorter.
+    // This and the sizes above are each shape's own constants, asked by the trait: what all shapes could share is no shorter.
     fn sort(&self, face: u8) -> Option<u8> {
         (face < FACES).then_some(0)
     }
 
     fn turned(&self, sort: u8, level: u8, number: u64) -> Option<u64> {
-        if sort == 0 && level <= DEPTH && number < 1 {
-            Some(number)
-        } else {
-            None
-        }
+        (sort == 0 && level <= DEPTH && number < 1).then_some(number)
     }
 }
 
 /// The corners of a line's cell, both with y 0, or none where there is no such cell.
+// Four pairs in an array, as the rules have it: `Flat::outline`.
 fn ends(level: u8, place: u64) -> Option<[(u32, u32); 4]>
     ensures { unwrap_or result (replicate 4 (0, 0)) ≡ outline_of (line_plan 18) level place }
 {
-    let Stretch { level, place } = Stretch::new(level, place)?;
+    let level = Level::new(level)?;
+    level.along(place)?;
     Some([
         (level.ticks(place)?, 0),
         (level.ticks(place + 1)?, 0),

@@ -139,10 +139,7 @@ impl Scheme for Square {
     fn at_edge(&self, level: u8, face: u8, number: u64) -> Option<(u64, u8)> {
         let level = Level::new(level)?;
         let side = Side::try_from(face).ok()?;
-        let number = u32::try_from(number).ok()?;
-        if number >= level.row_length() {
-            return None;
-        }
+        let number = level.along(number)?;
         Some((rim(level, side, number), face))
     }
 
@@ -155,7 +152,7 @@ impl Scheme for Square {
         Some((child_on(side, number), face))
     }
 
-    // One comparison with the number of faces of the shape: a function that all shapes share would be no shorter.
+    // This and the sizes above are each shape's own constants, asked by the trait: what all shapes could share is no shorter.
     fn sort(&self, face: u8) -> Option<u8> {
         (face < FACES).then_some(0)
     }
@@ -166,6 +163,7 @@ impl Scheme for Square {
 }
 
 /// The corners of a square: (x, y), (x + 1, y), (x, y + 1), (x + 1, y + 1); or none where there is no such place.
+// Four pairs in an array, as the rules have it: `Flat::outline`.
 fn corners(level: u8, place: u64) -> Option<[(u32, u32); 4]>
     ensures { unwrap_or result (replicate 4 (0, 0)) ≡ outline_of (square_plan 18) level place }
 {

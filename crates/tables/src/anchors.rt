@@ -17,45 +17,11 @@ const FAR: [u32; 8] = [
     u32::MAX,
 ];
 
-/// The coordinates of the cells.
-fn print_anchors<C: Fn(u8, u64) -> Option<Anchor>>(
-    rt: &HostRuntime,
-    asked: &Asked,
-    cell: &C,
-) -> anyhow::Result<()>
-    requires { C.IsAlwaysCallable cell.now }
-{
-    let level = asked.level;
-    let places = asked.places.as_slice();
-    print_row(
-        rt,
-        format_args!("cells {level}"),
-        level,
-        places,
-        |row, place| row.add(cell(level, place)),
-    )
-}
+/// The first level that is not asked for whole.
+const SMALL: u8 = 4;
 
-/// The places that the coordinates of the cells lead back to.
-fn print_back<C: Fn(u8, u64) -> Option<Anchor>, P: Fn(u8, Anchor) -> Option<u64>>(
-    rt: &HostRuntime,
-    asked: &Asked,
-    cell: &C,
-    place_of: &P,
-) -> anyhow::Result<()>
-    requires cells { C.IsAlwaysCallable cell.now }
-    requires places { P.IsAlwaysCallable place_of.now }
-{
-    let level = asked.level;
-    let places = asked.places.as_slice();
-    print_row(
-        rt,
-        format_args!("back {level}"),
-        level,
-        places,
-        |row, place| { row.add(cell(level, place).and_then(|anchor| place_of(level, anchor))) },
-    )
-}
+/// The levels that are asked for: small ones, the deepest, and one past it.
+const LEVELS: [u8; 6] = [0, 1, 2, 3, 18, 19];
 
 /// The places of the cells of each type on a grid of coordinates, and of one type more than there are.
 fn print_places<P: Fn(u8, Anchor) -> Option<u64>>(
@@ -78,9 +44,22 @@ fn print_places<P: Fn(u8, Anchor) -> Option<u64>>(
     Ok(())
 }
 
-/// The coordinates along a root's side at a level, and the first past it.
+/// The coordinates along a root's side at a small level and the first past it, and far ones at a deep level.
 fn reach_of(heap: Global, level: u8) -> Result<Vec<u32>, AllocError> {
-    (0..=1u32.wrapping_shl(u32::from(level))).collect(heap)
+    if level < SMALL {
+        (0..=1u32.wrapping_shl(u32::from(level))).collect(heap)
+    } else {
+        FAR.to_vec(heap)
+    }
+}
+
+/// All of a small level, and some of a deep one.
+fn asked_of<S: Scheme>(heap: Global, shape: &S, level: u8) -> Result<Asked, AllocError> {
+    if level < SMALL {
+        Asked::by(heap, shape, level, all)
+    } else {
+        Asked::by(heap, shape, level, some)
+    }
 }
 
 /// The cells and places of small levels, of the deepest, and one past it: `cell` tells a cell's coordinates, and `place_of`
@@ -94,22 +73,27 @@ pub(crate) fn print_cells<
     requires places { P.IsAlwaysCallable place_of }
 {
     println!(rt; "== cells of {name}")?;
-    for level in 0..4u8 {
-        let asked = Asked::by(rt.alloc(), shape, level, all)?;
-        print_anchors(rt, &asked, &cell)?;
-        print_back(rt, &asked, &cell, &place_of)?;
+    for level in LEVELS {
+        let asked = asked_of(rt.alloc(), shape, level)?;
+        let places = asked.places.as_slice();
+        print_row(
+            rt,
+            format_args!("cells {level}"),
+            level,
+            places,
+            |row, place| row.add(cell(level, place)),
+        )?;
+        print_row(
+            rt,
+            format_args!("back {level}"),
+            level,
+            places,
+            |row, place| { row.add(cell(level, place).and_then(|anchor| place_of(level, anchor))) },
+        )?;
     }
-    for level in [18u8, 19] {
-        let asked = Asked::by(rt.alloc(), shape, level, some)?;
-        print_anchors(rt, &asked, &cell)?;
-        print_back(rt, &asked, &cell, &place_of)?;
-    }
-    for level in 0..4u8 {
+    for level in LEVELS {
         let reach = reach_of(rt.alloc(), level)?;
         print_places(rt, level, reach.as_slice(), &place_of)?;
-    }
-    for level in [18u8, 19] {
-        print_places(rt, level, &FAR, &place_of)?;
     }
     Ok(())
 }

@@ -8,6 +8,7 @@ pub struct Leaf {
 
 impl Leaf {
     /// A record that is no leaf.
+    // Zeros, and no option of a leaf: the rules say what a blank record holds.
     pub const BLANK: Leaf = Leaf {
         root: 0,
         level: 0,

@@ -40,11 +40,7 @@ impl<S: Scheme> Scheme for Relabelled<S> {
     }
 
     fn sort(&self, face: u8) -> Option<u8> {
-        if face < self.below.faces() {
-            Some(face)
-        } else {
-            None
-        }
+        (face < self.below.faces()).then_some(face)
     }
 
     fn turned(&self, sort: u8, level: u8, number: u64) -> Option<u64> {

@@ -123,24 +123,21 @@ impl Scheme for Triangle {
 
     fn at_edge(&self, level: u8, face: u8, number: u64) -> Option<(u64, u8)> {
         let level = Level::new(level)?;
-        let side = Face::try_from(face).ok()?;
-        let number = u32::try_from(number).ok()?;
-        if number >= level.row_length() {
-            return None;
-        }
-        Some((rim(level, side, number), face))
+        let its_face = Face::try_from(face).ok()?;
+        let number = level.along(number)?;
+        Some((rim(level, its_face, number), face))
     }
 
     fn face_child(&self, level: u8, place: u64, face: u8, number: u8) -> Option<(u8, u8)> {
         let place = Place::new(level, place)?;
-        let side = Face::try_from(face).ok()?;
+        let its_face = Face::try_from(face).ok()?;
         if place.level.number >= DEPTH || number >= 2 {
             return None;
         }
-        Some((child_on(Half::at(place), side, number), face))
+        Some((child_on(Half::at(place), its_face, number), face))
     }
 
-    // One comparison with the number of faces of the shape: a function that all shapes share would be no shorter.
+    // This and the sizes above are each shape's own constants, asked by the trait: what all shapes could share is no shorter.
     fn sort(&self, face: u8) -> Option<u8> {
         (face < FACES).then_some(0)
     }
@@ -152,6 +149,7 @@ impl Scheme for Triangle {
 
 /// The corners of a triangle: its anchor (x, y), then (x + 1, y) for type 0 or (x, y + 1) for type 1, then (x + 1, y + 1);
 /// or none where there is no such place.
+// Four pairs in an array, as the rules have it: `Flat::outline`.
 fn corners(level: u8, place: u64) -> Option<[(u32, u32); 4]>
     ensures { unwrap_or result (replicate 4 (0, 0)) ≡ outline_of (triangle_plan 18) level place }
 {

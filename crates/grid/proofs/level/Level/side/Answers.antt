@@ -7,5 +7,5 @@ returns-clause-row c =
     let all : l + (18 - l) ≡ 18 = omega arith in
     let within : 18 - l ≤ 18 = omega arith in
     let small : 2 ^ (18 - l) ≤ 2 ^ 18 = pow_mono within in
-    let e : 1 * 2 ^ (18 - l) % 18446744073709551616 ≡ 2 ^ (18 - l) = omega (arith, small) in
+    let e : 1 * 2 ^ (18 - l) % 4294967296 ≡ 2 ^ (18 - l) = omega (arith, small) in
     rw e (sym (pow-add 2 l (18 - l)) ∙ ap (λ x. 2 ^ x) all)
