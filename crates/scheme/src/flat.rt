@@ -1,18 +1,15 @@
-ghost use Rattle.std.specs.Prelude.{◌≡◌, ◌≤◌, ℕ};
+ghost use Rattle.std.specs.Prelude.{◌≡◌, ◌≤◌};
 ghost use Rattle.scheme.specs.Plan.{Plan, Nested, Agrees, outline_of, Flat as FlatModel};
 
 use crate::scheme::Scheme;
 
 /// A scheme that also places its cells on the plan.
 pub trait Flat: Scheme {
-    /// How many corners a cell has: the number of every plan of the scheme.
+    /// How many corners a cell has. A constant takes no contract: `corner_count` is the number that is proved.
+    // A ghost member beside it would state it, but each `impl` would have to give that, and one without it be no `Flat`.
     const CORNERS: usize;
 
-    ghost CORNERS: { ℕ };
-
     ghost plan: { Self → Plan };
-
-    ghost counted: { (s : Self) → (plan s).count ≡ CORNERS };
 
     /// How many corners a cell has on its plan, 1 to 4.
     fn corner_count(&self) -> usize

@@ -68,10 +68,6 @@ impl<S: Scheme> Scheme for Limit<S> {
 impl<S: Flat> Flat for Limit<S> {
     const CORNERS: usize = S::CORNERS;
 
-    ghost CORNERS = { S.Flat.CORNERS };
-
-    ghost counted = { λ s. S.Flat.counted s.below };
-
     ghost plan = { λ s. limited_plan s.limit (S.Flat.plan s.below) };
 
     ghost nested = { λ s. limited_nested (S.Flat.plan s.below) (S.Flat.nested s.below) s.limit };

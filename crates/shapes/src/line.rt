@@ -1,4 +1,4 @@
-ghost use Rattle.std.specs.Prelude.{◌≡◌, replicate, unwrap_or, refl};
+ghost use Rattle.std.specs.Prelude.{◌≡◌, replicate, unwrap_or};
 ghost use Rattle.scheme.specs.Plan.{outline_of};
 ghost use Rattle.shapes.specs.Segment.{line as line_meaning, line_plan, LineShares, LineFaceChildKeeps, LineExamples, AllEdgesBreakTheLaws};
 ghost use Rattle.std.proofs.Common.{lit≤};
@@ -104,10 +104,6 @@ fn ends(level: u8, place: u64) -> Option<[(u32, u32); 4]>
 
 impl Flat for Line {
     const CORNERS: usize = 2;
-
-    ghost CORNERS = { 2 };
-
-    ghost counted = { λ _. refl };
 
     ghost plan = { λ _. line_plan 18 };
 

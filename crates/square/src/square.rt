@@ -1,4 +1,4 @@
-ghost use Rattle.std.specs.Prelude.{◌≡◌, ◌<◌, replicate, unwrap_or, refl};
+ghost use Rattle.std.specs.Prelude.{◌≡◌, ◌<◌, replicate, unwrap_or};
 ghost use Rattle.scheme.specs.Plan.{outline_of};
 ghost use Rattle.models.specs.Moving.{square_number};
 ghost use Rattle.models.specs.Square.{square as square_meaning, square_plan, square_cell, square_place, square_rim, square_on_face, SquareBits, SquareUndoes, SquareThere, SquareShares, SquareFaceChildren};
@@ -178,10 +178,6 @@ fn corners(level: u8, place: u64) -> Option<[(u32, u32); 4]>
 
 impl Flat for Square {
     const CORNERS: usize = 4;
-
-    ghost CORNERS = { 4 };
-
-    ghost counted = { λ _. refl };
 
     ghost plan = { λ _. square_plan 18 };
 

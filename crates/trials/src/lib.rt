@@ -6,6 +6,7 @@
 mod crossing;
 #[cfg(test)]
 mod meshes;
+mod named;
 #[cfg(test)]
 mod planting;
 mod relabelled;
@@ -14,4 +15,5 @@ mod schemes;
 #[cfg(test)]
 mod told;
 
+pub use named::Named;
 pub use relabelled::Relabelled;

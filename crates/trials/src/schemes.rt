@@ -1,7 +1,10 @@
 //! The line and the depth limit, on tables and by their corners.
+use crate::named::Named;
 use crate::relabelled::Relabelled;
+use product::Product;
 use scheme::{Crossing, Flat, Limit, Scheme};
 use shapes::Line;
+use square::Square;
 use std::process::Abort;
 
 /// How many ticks a root's side has.
@@ -167,4 +170,34 @@ fn a_limit_copies_the_number_of_corners(rt: HostRuntime) {
     assert_eq!(rt; constant(&line), 2);
     assert_eq!(rt; constant(&once), once.corner_count());
     assert_eq!(rt; constant(&twice), 2);
+}
+
+#[test]
+fn a_flat_scheme_of_ones_own_is_limited_and_multiplied(rt: HostRuntime) {
+    let square = Square::new();
+    let own = Named {
+        below: square,
+        name: "pit floor",
+    };
+    assert_eq!(rt; own.name, "pit floor");
+    assert_eq!(rt; (constant(&own), own.corner_count()), (4, 4));
+    let limited = Limit {
+        below: own,
+        limit: 2,
+    };
+    assert_eq!(rt; limited.outline(2, 6), square.outline(2, 6));
+    assert_eq!(rt; limited.outline(3, 6), [(0, 0); 4]);
+    let (mine, plain) = (
+        Product {
+            first: own,
+            second: Line::new(),
+        },
+        Product {
+            first: square,
+            second: Line::new(),
+        },
+    );
+    for (place, face) in [(0, 0), (3, 1), (5, 3), (7, 4), (7, 5)] {
+        assert_eq!(rt; mine.across(1, place, face), plain.across(1, place, face));
+    }
 }

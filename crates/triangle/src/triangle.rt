@@ -1,4 +1,4 @@
-ghost use Rattle.std.specs.Prelude.{◌≡◌, ◌^◌, ◌<◌, replicate, unwrap_or, refl};
+ghost use Rattle.std.specs.Prelude.{◌≡◌, ◌^◌, ◌<◌, replicate, unwrap_or};
 ghost use Rattle.scheme.specs.Plan.{outline_of};
 ghost use Rattle.models.specs.Triangle.{triangle as triangle_meaning, triangle_plan, triangle_cell, triangle_place, triangle_rim, triangle_on_face, TriangleOrder, TriangleUndoes, TriangleThere, TriangleShares, TriangleFaceChildren};
 ghost use Rattle.triangle.specs.Face.{face_of};
@@ -166,10 +166,6 @@ fn corners(level: u8, place: u64) -> Option<[(u32, u32); 4]>
 
 impl Flat for Triangle {
     const CORNERS: usize = 3;
-
-    ghost CORNERS = { 3 };
-
-    ghost counted = { λ _. refl };
 
     ghost plan = { λ _. triangle_plan 18 };
 
