@@ -75,7 +75,8 @@ impl Level {
     pub fn turned_over(self, number: u64) -> Option<u64>
         ensures { result ≡ (if nat_lt number (2 ^ self.number) then Some (turn_over self.number number) else None) }
     {
-        let number = self.along(number)?;
-        Some(u64::from(self.row_length() - 1 - number))
+        self.along(number)?;
+        // In 64 bits: turned over in 32, an edge number of a product took a third longer to turn.
+        Some(u64::from(self.row_length()) - 1 - number)
     }
 }
