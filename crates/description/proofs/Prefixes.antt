@@ -87,11 +87,11 @@ value_one Balance (Range v) r q fs ft e = let z : ◌≡◌ {A = ℕ} 8 7 = cc i
 pub step_one : (s t : Step) (r q : List ℕ) → StepFits s → StepFits t → step_bytes s ++ r ≡ step_bytes t ++ q → (s ≡ t) × (r ≡ q)
 step_one s t r q fs ft e = value_one s t r q fs ft (sym (step_front s r) ∙ e ∙ step_front t q)
 
-length_head : (h : Head) → length (head_bytes h) ≡ 7
+pub length_head : (h : Head) → length (head_bytes h) ≡ 7
 unfolding head_bytes be
 length_head h = refl
 
-length_row : (j : Joint) → length (row_bytes j) ≡ 7
+pub length_row : (j : Joint) → length (row_bytes j) ≡ 7
 unfolding row_bytes be
 length_row j = refl
 

@@ -12,13 +12,13 @@ use Rattle.forest.specs.declared.fault.PlantFault.{PlantFault}
 use Rattle.forest.specs.Planting.{leaves, Laid, Stopped, Answers}
 
 module _ (m : Model) (roots l : ℕ) (ls : List Leaf) (le : l ≤ m.D) (e : ls ≡ evenly roots m.w l) where
-  planted_tiles : Tiles m roots ls
+  pub planted_tiles : Tiles m roots ls
   planted_tiles = subst (Tiles m roots) (sym e) (even_tiles m roots l le).0
 
-  planted_long : length ls ≡ roots * k m ^ l
+  pub planted_long : length ls ≡ roots * k m ^ l
   planted_long = ap length e ∙ (even_tiles m roots l le).1
 
-  planted_cells : (c : Leaf) → Among ls c ↔ (CellOf m roots c × (c.level ≡ l))
+  pub planted_cells : (c : Leaf) → Among ls c ↔ (CellOf m roots c × (c.level ≡ l))
   planted_cells c = subst (λ xs. Among xs c ↔ (CellOf m roots c × (c.level ≡ l))) (sym e) (even_among m roots l c le)
 
 module _ (m : Model) (roots : ℕ) (js : List Joint) (l cap : ℕ) (records : List Leaf) where

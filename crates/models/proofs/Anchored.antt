@@ -1,5 +1,6 @@
 -- The cell at a place, behind the test that the place is there.
-use Rattle.std.proofs.Common.{◌≡◌, ℕ, ◌^◌, ◌<◌, ◌≤◌, cond, ◌&&◌, ltb, leb, ◌↔◌, Some, None, sym, ap}
+use Rattle.std.proofs.Common.{◌≡◌, ℕ, ◌^◌, ◌<◌, ◌≤◌, true, cond, ◌&&◌, ltb, leb, ◌↔◌, is_some, Some, None, sym, ap, arith}
+use Rattle.std.proofs.lemmas.Bool.Decides.{nat_tests}
 use Rattle.models.specs.declared.anchor.Anchor.{Anchor}
 use Rattle.models.proofs.Converting.{tested_some, both_tests, tests_both}
 
@@ -19,6 +20,10 @@ anchored_iff D l p a c = (there, here)
 
     here : (l ≤ D) × (p < 4 ^ l) × (c.x ≡ a.x) × (c.y ≡ a.y) × (c.ty ≡ a.ty) → cond (leb l D && ltb p (4 ^ l)) (Some a) None ≡ Some c
     here (hl, hp, ex, ey, et) = rw (both_tests l D p (4 ^ l) hl hp) (ap (λ (b : Anchor). Some b) (same_anchor a c ex ey et))
+
+-- there is a cell at exactly the places there are
+pub anchored_some : (D l p : ℕ) (a : Anchor) → (is_some (cond (leb l D && ltb p (4 ^ l)) (Some a) None) ≡ true) ↔ ((l ≤ D) × (p < 4 ^ l))
+anchored_some D l p a = ((λ e. grind (arith, nat_tests)), (λ c. grind (arith, nat_tests)))
 
 -- two ways to say the same
 pub both_ways : {A B C : Type 0} → A ↔ C → B ↔ C → A ↔ B

@@ -1,5 +1,5 @@
 -- Places of the square and their coordinates answer each other.
-use Rattle.std.proofs.Common.{◌≡◌, ℕ, zero, suc, ◌+◌, ◌*◌, ◌/◌, ◌%◌, ◌^◌, ◌<◌, ◌≤◌, ◌↔◌, Some, refl, pow-suc, arith}
+use Rattle.std.proofs.Common.{◌≡◌, ℕ, zero, suc, ◌+◌, ◌*◌, ◌/◌, ◌%◌, ◌^◌, ◌<◌, ◌≤◌, true, ◌↔◌, is_some, Some, refl, pow-suc, arith}
 use Rattle.std.proofs.lemmas.Bool.Decides.{nat_tests}
 use Rattle.models.specs.Square.{square_x, square_y, square_at, square_place, SquareCell, SquareBits, SquareUndoes}
 use Rattle.models.proofs.Anchored.{anchored_iff, both_ways}
@@ -84,6 +84,10 @@ y_bit (suc l) (suc i) p h =
 -- every place is a cell
 pub is_cell : (l p : ℕ) → SquareCell l (square_x l p) (square_y l p) 0
 is_cell l p = (x_lt l p, y_lt l p, refl)
+
+-- exactly the cells there are have a place
+pub square_place_some : (D l x y t : ℕ) → (is_some (square_place D l x y t) ≡ true) ↔ ((l ≤ D) × SquareCell l x y t)
+square_place_some D l x y t = ((λ e. grind (arith, nat_tests)), (λ c. grind (arith, nat_tests)))
 
 -- the place of a cell has its coordinates, and each place is of the cell that has its own
 pub square_place_iff : (D l x y t p : ℕ) →

@@ -1,5 +1,5 @@
 -- Places of the triangle and their anchors and types answer each other.
-use Rattle.std.proofs.Common.{◌≡◌, ℕ, zero, suc, ◌+◌, ◌*◌, ◌/◌, ◌%◌, ◌^◌, ◌<◌, ◌≤◌, ◌↔◌, Some, sym, refl, ap, ◌∙◌, inl, pow-suc, arith}
+use Rattle.std.proofs.Common.{◌≡◌, ℕ, zero, suc, ◌+◌, ◌*◌, ◌/◌, ◌%◌, ◌^◌, ◌<◌, ◌≤◌, true, ◌↔◌, is_some, Some, sym, refl, ap, ◌∙◌, inl, pow-suc, arith}
 use Rattle.std.proofs.lemmas.Bool.Decides.{nat_tests}
 use Rattle.models.specs.Triangle.{triangle_child, triangle_type, triangle_x, triangle_y, triangle_parent, triangle_number, triangle_at, triangle_cell, triangle_place, TriangleCell, TriangleOrder, TriangleUndoes}
 use Rattle.models.specs.declared.anchor.Anchor.{Anchor}
@@ -111,6 +111,10 @@ cell_back (suc l) x y t c =
     let q = triangle_at l (x / 2) (y / 2) (triangle_parent (x % 2) (y % 2) t) in
     let i = triangle_number (x % 2) (y % 2) t in
     (x_child l q i small ∙ rw (bx, bt, ex) (omega arith), y_child l q i small ∙ rw (by, bt, ey) (omega arith), type_child l q i small ∙ rw (bt, et))
+
+-- exactly the cells there are have a place
+pub triangle_place_some : (D l x y t : ℕ) → (is_some (triangle_place D l x y t) ≡ true) ↔ ((l ≤ D) × TriangleCell l x y t)
+triangle_place_some D l x y t = ((λ e. grind (arith, nat_tests)), (λ c. grind (arith, nat_tests)))
 
 -- the place of a cell has its anchor and type, and each place is of the cell that has its own
 pub triangle_place_iff : (D l x y t p : ℕ) →
