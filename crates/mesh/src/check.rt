@@ -60,12 +60,13 @@ impl Mesh {
             || self.is_joined_before(i, joint.other())
     }
 
-    /// The first fault of this row `i`.
-    fn check_row<S: Scheme>(&self, scheme: &S, i: usize, joint: &Joint) -> Result<(), MeshFault>
-        requires is_row { i < length self.now.joints.items }
-        requires this { joint.now ≡ row self.now.joints.items i }
+    /// The first fault of row `i`.
+    // The row is looked up here: were it handed over, the proof would need an answer, which names what an edit takes away.
+    fn check_row<S: Scheme>(&self, scheme: &S, i: usize) -> Result<(), MeshFault>
+        requires { i < length self.now.joints.items }
         ensures { MatchResult result (λ _. Sound (S.Scheme.meaning scheme.now) self.now.roots self.now.joints.items i) (λ f. ((told f).1 ≡ suc i) × Faulty (S.Scheme.meaning scheme.now) self.now.roots self.now.joints.items i (told f).0) }
     {
+        let joint = &self.joints[i];
         let row = i + 1;
         if self.is_absent(scheme, joint) {
             return Err(MeshFault::Absent { row });
@@ -84,8 +85,8 @@ impl Mesh {
         requires { CountsIn self.now.roots self.now.joints.items }
         ensures { Verdict (S.Scheme.meaning scheme.now) self.now.roots self.now.joints.items result }
     {
-        for (i, joint) in self.joints.iter().enumerate() {
-            self.check_row(scheme, i, joint)?;
+        for i in 0..self.joints.len() {
+            self.check_row(scheme, i)?;
         }
         Ok(())
     }
