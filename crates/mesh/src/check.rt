@@ -61,7 +61,8 @@ impl Mesh {
     }
 
     /// The first fault of row `i`.
-    // The row is looked up here: were it handed over, the proof would need an answer, which names what an edit takes away.
+    // The row is looked up and not handed over, so that the check proves this function with no answer: a must-fail edit stands
+    // here, and docs/DECISIONS.md says what such a function is to be like.
     fn check_row<S: Scheme>(&self, scheme: &S, i: usize) -> Result<(), MeshFault>
         requires { i < length self.now.joints.items }
         ensures { MatchResult result (λ _. Sound (S.Scheme.meaning scheme.now) self.now.roots self.now.joints.items i) (λ f. ((told f).1 ≡ suc i) × Faulty (S.Scheme.meaning scheme.now) self.now.roots self.now.joints.items i (told f).0) }
